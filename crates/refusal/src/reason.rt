@@ -80,7 +80,8 @@ impl Reason {
         match self {
             Reason::BlockLength => "the parameter block has not ten octets",
             Reason::BlockSignature => "F_Par_CRC is not the check value of the block",
-            Reason::BlockFlags => "a flag octet has a version, a block kind or a bit that is not allowed",
+            Reason::BlockFlags =>
+                "a flag octet has a version, a block kind or a bit that is not allowed",
             Reason::SourceAddress => "F_Source_Add is 0 or 65535",
             Reason::DestinationAddress => "F_Dest_Add is 0 or 65535",
             Reason::OtherDestination => "F_Dest_Add is another device's address",

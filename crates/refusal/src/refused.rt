@@ -22,10 +22,8 @@ impl Refusal {
         ensures { λ r. ⌜ r ≡ refusalAt reason found ⌝ }
     {
         let place = match reason {
-            Reason::BlockFlags
-            | Reason::RecordLength
-            | Reason::RecordKind
-            | Reason::RecordOrder => found,
+            Reason::BlockFlags | Reason::RecordLength | Reason::RecordKind | Reason::RecordOrder =>
+                found,
             Reason::SourceAddress => 2,
             Reason::DestinationAddress | Reason::OtherDestination => 4,
             Reason::NoWatchTime => 6,

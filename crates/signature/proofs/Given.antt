@@ -1,7 +1,7 @@
 -- What the laws give of any kind: registers stay in range, a frame fits one number at most, a signed frame fits.
-use mathlib.Core.Path.{_≡_, refl, sym, ap, _∙_, subst}
+use mathlib.Core.Path.{_≡_, refl, sym, ap, ap₂, _∙_, subst}
 use mathlib.Core.Logic.{⊎-elim}
-use mathlib.Core.Bool.{Bool, true, _&&_}
+use mathlib.Core.Bool.{true, false, _&&_}
 use mathlib.Core.List.{List, [], _∷_, _++_}
 use Prim.Native.Nat.{ℕ, zero, suc, _+_, _-_, _*_, _/_, _%_, _^_, _<_, _≤_}
 use native.Mathlib.Nat.{pow-suc}
@@ -12,7 +12,7 @@ use Rattle.std.specs.shelf.Text.{sameBytes}
 use Rattle.std.proofs.shelf.Equals.{sameBytes-decides}
 use Rattle.std.proofs.shelf.Elements.{all-take, all-push}
 use Rattle.std.proofs.shelf.Lists.{take-at, drop-at, length-append, length-push, same-from-push}
-use Rattle.std.proofs.shelf.Tests.{and-parts, and-from, leb-true, le-leb}
+use Rattle.std.proofs.shelf.Tests.{and-parts, and-left, leb-true, le-leb, lt-leb}
 use Rattle.signature.specs.Kind.{Model, feed, octets, signed, signature, fitsNumber}
 use Rattle.signature.specs.Laws.{Laws, Octets, registers}
 
@@ -56,20 +56,30 @@ fits-parts m crc n f e =
     let parts = and-parts (leb (m .width) (length f)) (sameBytes last due) e in
     (leb-true (m .width) (length f) (parts .0), sameBytes-decides last due .0 (parts .1))
 
+-- a frame that is shorter than a signature fits no number
+pub fits-short : (m : Model) (crc n : ℕ) (f : List ℕ) → length f < m .width → fitsNumber m crc n f ≡ false
+unfolding fitsNumber
+fits-short m crc n f h =
+    and-left (leb (m .width) (length f)) (sameBytes (drop (length f - m .width) f) (signature m crc n (take (length f - m .width) f)))
+    (lt-leb (m .width) (length f) h)
+
+-- a frame by its parts: whether it fits is whether the last one is the signature of the first
+pub fits-append : (m : Model) (crc n : ℕ) (body last : List ℕ) → length last ≡ m .width
+    → fitsNumber m crc n (body ++ last) ≡ sameBytes last (signature m crc n body)
+unfolding fitsNumber
+fits-append m crc n body last wide =
+    let f = body ++ last in
+    let whole : length f ≡ length body + length last = length-append body last in
+    let cut : length body ≡ length f - m .width = omega arith in
+    let long : leb (m .width) (length f) ≡ true = le-leb (m .width) (length f) (omega arith) in
+    ap₂ _&&_ long
+    (ap₂ (λ x y. sameBytes x (signature m crc n y)) (drop-at body last (length f - m .width) cut) (take-at body last (length f - m .width) cut))
+
 -- a frame that was signed under a number fits it
 pub signed-fits : (m : Model) (crc n : ℕ) (os : List ℕ) → fitsNumber m crc n (os ++ signature m crc n os) ≡ true
-unfolding fitsNumber
 signed-fits m crc n os =
-    let w : ℕ = m .width in
     let s = signature m crc n os in
-    let f = os ++ s in
-    let wide : length s ≡ w = signature-length m crc n os in
-    let whole : length f ≡ length os + length s = length-append os s in
-    let cut : length os ≡ length f - w = omega arith in
-    and-from (leb w (length f)) (sameBytes (drop (length f - w) f) (signature m crc n (take (length f - w) f)))
-    (le-leb w (length f) (omega arith))
-    (sameBytes-decides (drop (length f - w) f) (signature m crc n (take (length f - w) f)) .1
-    (drop-at os s (length f - w) cut ∙ ap (signature m crc n) (sym (take-at os s (length f - w) cut))))
+    fits-append m crc n os s (signature-length m crc n os) ∙ sameBytes-decides s s .1 refl
 
 module _ (m : Model) (laws : Laws m) where
   -- a check value is a register of every kind

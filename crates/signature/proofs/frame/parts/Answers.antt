@@ -1,5 +1,5 @@
 -- A frame in its two parts.
-use mathlib.Core.Path.{_≡_, ap, _∙_}
+use mathlib.Core.Path.{ap, _∙_}
 use mathlib.Core.List.{List}
 use native.Mathlib.Omega.{arith}
 use Rattle.signature.specs.Kind.{fitsNumber}

@@ -1,0 +1,6 @@
+-- Why the safety statement holds: an invariant of the pair, kept by every call.
+pub mod Numbers
+pub mod Cases
+pub mod Octets
+pub mod Traces
+pub mod Lines

@@ -4,3 +4,5 @@ pub mod Cases
 pub mod Octets
 pub mod Traces
 pub mod Lines
+pub mod Invariant
+pub mod Steps

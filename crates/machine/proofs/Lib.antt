@@ -6,3 +6,4 @@ pub mod Traces
 pub mod Lines
 pub mod Invariant
 pub mod Steps
+pub mod Composing

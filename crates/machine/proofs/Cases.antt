@@ -1,17 +1,19 @@
 -- Going by the cases of a phase, a verdict, a kept frame or a reason to refuse, with the case as an equation.
-use mathlib.Core.Path.{_≡_, refl}
-use mathlib.Core.List.{List}
-use mathlib.Core.Bool.{Bool, true, false, cond, not, _&&_}
+use mathlib.Core.Path.{_≡_, refl, sym}
+use mathlib.Core.Bool.{Bool, true, false, cond, not}
 use Prim.Native.Nat.{ℕ}
 use native.Mathlib.Omega.{arith}
-use Rattle.std.specs.Options.{isSome}
 use Rattle.std.specs.declared.option.Option.{Option}
 use Rattle.std.specs.declared.option.Option.the-variants.{Some, None}
-use Rattle.std.proofs.shelf.Tests.{true≢false, false≢true}
+use Rattle.refusal.specs.declared.reason.Reason.{Reason}
 use Rattle.machine.specs.declared.phase.HostPhase.{HostPhase}
 use Rattle.machine.specs.declared.phase.DevicePhase.{DevicePhase}
-use Rattle.machine.specs.HostEnd.{HostState, hostRuns, hostKeeping}
-use Rattle.machine.specs.DeviceEnd.{DeviceState, deviceRuns, deviceKeeping}
+use Rattle.machine.specs.HostEnd.{hostRuns}
+use Rattle.machine.specs.DeviceEnd.{deviceRuns}
+
+pub by-bool : (P : Bool → Type 0) (b : Bool) → (b ≡ true → P true) → (b ≡ false → P false) → P b
+by-bool P true holds fails = holds refl
+by-bool P false holds fails = fails refl
 
 pub by-host-phase : (P : HostPhase → Type 0) (p : HostPhase) → (hostRuns p ≡ false → P HostPhase.Restart) → (hostRuns p ≡ true → P HostPhase.Run) → P p
 by-host-phase P HostPhase.Restart rests runs = rests refl
@@ -27,6 +29,11 @@ by-option P (Some a) none some = some a refl
 
 pub none-some : {A : Type 0} {a : A} → _≡_ {A = Option A} None (Some a) → ⊥
 none-some e = let z : _≡_ {A = ℕ} 0 1 = cc in omega arith
+
+-- a chain of checks that finds no reason to refuse has passed its first
+pub passed : (b : Bool) (e : Reason) (o : Option Reason) → cond (not b) (Some e) o ≡ None → b ≡ true
+passed true e o h = refl
+passed false e o h = absurd (none-some (sym h))
 
 pub some-same : {A : Type 0} {a b : A} → _≡_ {A = Option A} (Some a) (Some b) → a ≡ b
 some-same e = cc

@@ -7,3 +7,4 @@ pub mod Lines
 pub mod Invariant
 pub mod Steps
 pub mod Composing
+pub mod Each

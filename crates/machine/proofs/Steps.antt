@@ -34,7 +34,14 @@ hostAt h n = record { phase = h .phase; number = h .number; previous = h .previo
 abbrev pub hostNext : HostState → HostPhase → ℕ → ℕ → Bool → Option (List ℕ) → HostState
 hostNext h ph n p t a = record { phase = ph; number = n; previous = p; toggle = t; ticks = 0; stop = h .stop; kept = None; answer = a; cause = h .cause }
 
--- the device with other ticks
+-- the host with another kept frame
+abbrev pub hostWith : HostState → Option (List ℕ) → HostState
+hostWith h k = record { phase = h .phase; number = h .number; previous = h .previous; toggle = h .toggle; ticks = h .ticks; stop = h .stop; kept = k; answer = h .answer; cause = h .cause }
+
+-- the device with another kept answer, and with other ticks
+abbrev pub deviceWith : DeviceState → Option (List ℕ) → DeviceState
+deviceWith d k = record { phase = d .phase; number = d .number; toggle = d .toggle; ticks = d .ticks; kept = k; frame = d .frame; cause = d .cause }
+
 abbrev pub deviceAt : DeviceState → ℕ → DeviceState
 deviceAt d n = record { phase = d .phase; number = d .number; toggle = d .toggle; ticks = n; kept = d .kept; frame = d .frame; cause = d .cause }
 

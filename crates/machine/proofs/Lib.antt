@@ -8,3 +8,4 @@ pub mod Invariant
 pub mod Steps
 pub mod Composing
 pub mod Each
+pub mod Takes

@@ -9,3 +9,4 @@ pub mod Steps
 pub mod Composing
 pub mod Each
 pub mod Takes
+pub mod Kept

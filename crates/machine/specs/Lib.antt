@@ -1,6 +1,5 @@
 -- The machine's definitions, from the words of a listing to the statement over whole runs.
 pub mod Words
-pub mod Numbers
 pub mod Watch
 pub mod Frames
 pub mod Answers

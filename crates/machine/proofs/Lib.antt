@@ -10,3 +10,5 @@ pub mod Composing
 pub mod Each
 pub mod Takes
 pub mod Kept
+pub mod Stands
+pub mod Unchanged

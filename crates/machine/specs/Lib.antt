@@ -10,3 +10,4 @@ pub mod Lines
 pub mod Calls
 pub mod Events
 pub mod Statement
+pub mod Refused

@@ -1,0 +1,27 @@
+// The coupler as one machine: the outcomes, phases, causes and setup that both ends share, and the safety statement.
+mod judged;
+mod outcome;
+mod phase;
+mod setup;
+
+pub use judged::DeviceJudged;
+pub use judged::DeviceJudgedDebug;
+pub use judged::DeviceJudgedPartialEq;
+pub use judged::HostJudged;
+pub use judged::HostJudgedDebug;
+pub use judged::HostJudgedPartialEq;
+pub use outcome::Outcome;
+pub use outcome::OutcomeDebug;
+pub use outcome::OutcomePartialEq;
+pub use phase::Cause;
+pub use phase::CauseDebug;
+pub use phase::CausePartialEq;
+pub use phase::DevicePhase;
+pub use phase::DevicePhaseDebug;
+pub use phase::DevicePhasePartialEq;
+pub use phase::HostPhase;
+pub use phase::HostPhaseDebug;
+pub use phase::HostPhasePartialEq;
+pub use setup::Setup;
+pub use setup::SetupDebug;
+pub use setup::SetupPartialEq;

@@ -1,18 +1,19 @@
 -- What the laws give of any kind: registers stay in range, a frame fits one number at most, a signed frame fits.
-use mathlib.Core.Path.{_≡_, refl, sym, ap, _∙_, subst}
+use mathlib.Core.Path.{_≡_, refl, sym, ap, ap₂, _∙_}
 use mathlib.Core.Logic.{⊎-elim}
-use mathlib.Core.Bool.{Bool, true, _&&_}
+use mathlib.Core.Bool.{true, false, _&&_}
 use mathlib.Core.List.{List, [], _∷_, _++_}
 use Prim.Native.Nat.{ℕ, zero, suc, _+_, _-_, _*_, _/_, _%_, _^_, _<_, _≤_}
 use native.Mathlib.Nat.{pow-suc}
 use native.Mathlib.Omega.{arith}
 use lib.Dec.{leb}
 use lib.ListN.{length, take, drop}
+use lib.Pow.{pow-add}
 use Rattle.std.specs.shelf.Text.{sameBytes}
 use Rattle.std.proofs.shelf.Equals.{sameBytes-decides}
 use Rattle.std.proofs.shelf.Elements.{all-take, all-push}
 use Rattle.std.proofs.shelf.Lists.{take-at, drop-at, length-append, length-push, same-from-push}
-use Rattle.std.proofs.shelf.Tests.{and-parts, and-from, leb-true, le-leb}
+use Rattle.std.proofs.shelf.Tests.{and-parts, and-left, leb-true, le-leb, lt-leb}
 use Rattle.signature.specs.Kind.{Model, feed, octets, signed, signature, fitsNumber}
 use Rattle.signature.specs.Laws.{Laws, Octets, registers}
 
@@ -27,15 +28,26 @@ unfolding octets
 octets-are zero x = tt
 octets-are (suc n) x = all-push (λ o. o < 256) (octets n (x / 256)) (x % 256) (octets-are n (x / 256)) (omega arith)
 
+pub feed-append : (m : Model) (r : ℕ) (xs ys : List ℕ) → feed m r (xs ++ ys) ≡ feed m (feed m r xs) ys
+feed-append m r [] ys = refl
+feed-append m r (x ∷ xs) ys = feed-append m (m .step r x) xs ys
+
+-- registers by the powers of 256
+pub registers-are : (n : ℕ) → registers n ≡ 256 ^ n
+registers-are zero = refl
+registers-are (suc n) =
+    ap (λ (k : ℕ). 2 ^ k) (omega arith) ∙ pow-add 2 (8 * n) 8 ∙ ap (λ (x : ℕ). x * 256) (registers-are n) ∙ sym (pow-suc 256 n)
+
 -- octets tell their number
-pub octets-inj : (n x y : ℕ) → x < 256 ^ n → y < 256 ^ n → octets n x ≡ octets n y → x ≡ y
+pub octets-inj : (n x y : ℕ) → x < registers n → y < registers n → octets n x ≡ octets n y → x ≡ y
 unfolding octets
 octets-inj zero x y hx hy e = omega arith
 octets-inj (suc n) x y hx hy e =
     let parts = same-from-push (octets n (x / 256)) (octets n (y / 256)) (x % 256) (y % 256) e in
     let low : x % 256 ≡ y % 256 = parts .1 in
-    let high : x / 256 ≡ y / 256 =
-    octets-inj n (x / 256) (y / 256) (omega (arith, pow-suc 256 n)) (omega (arith, pow-suc 256 n)) (parts .0) in
+    let less : (z : ℕ) → z < registers (suc n) → z / 256 < registers n =
+    λ z h. omega (arith, registers-are n, registers-are (suc n), pow-suc 256 n) in
+    let high : x / 256 ≡ y / 256 = octets-inj n (x / 256) (y / 256) (less x hx) (less y hy) (parts .0) in
     omega arith
 
 pub signature-length : (m : Model) (crc n : ℕ) (os : List ℕ) → length (signature m crc n os) ≡ m .width
@@ -56,20 +68,30 @@ fits-parts m crc n f e =
     let parts = and-parts (leb (m .width) (length f)) (sameBytes last due) e in
     (leb-true (m .width) (length f) (parts .0), sameBytes-decides last due .0 (parts .1))
 
+-- a frame that is shorter than a signature fits no number
+pub fits-short : (m : Model) (crc n : ℕ) (f : List ℕ) → length f < m .width → fitsNumber m crc n f ≡ false
+unfolding fitsNumber
+fits-short m crc n f h =
+    and-left (leb (m .width) (length f)) (sameBytes (drop (length f - m .width) f) (signature m crc n (take (length f - m .width) f)))
+    (lt-leb (m .width) (length f) h)
+
+-- a frame by its parts: whether it fits is whether the last one is the signature of the first
+pub fits-append : (m : Model) (crc n : ℕ) (body last : List ℕ) → length last ≡ m .width
+    → fitsNumber m crc n (body ++ last) ≡ sameBytes last (signature m crc n body)
+unfolding fitsNumber
+fits-append m crc n body last wide =
+    let f = body ++ last in
+    let whole : length f ≡ length body + length last = length-append body last in
+    let cut : length body ≡ length f - m .width = omega arith in
+    let long : leb (m .width) (length f) ≡ true = le-leb (m .width) (length f) (omega arith) in
+    ap₂ _&&_ long
+    (ap₂ (λ x y. sameBytes x (signature m crc n y)) (drop-at body last (length f - m .width) cut) (take-at body last (length f - m .width) cut))
+
 -- a frame that was signed under a number fits it
 pub signed-fits : (m : Model) (crc n : ℕ) (os : List ℕ) → fitsNumber m crc n (os ++ signature m crc n os) ≡ true
-unfolding fitsNumber
 signed-fits m crc n os =
-    let w : ℕ = m .width in
     let s = signature m crc n os in
-    let f = os ++ s in
-    let wide : length s ≡ w = signature-length m crc n os in
-    let whole : length f ≡ length os + length s = length-append os s in
-    let cut : length os ≡ length f - w = omega arith in
-    and-from (leb w (length f)) (sameBytes (drop (length f - w) f) (signature m crc n (take (length f - w) f)))
-    (le-leb w (length f) (omega arith))
-    (sameBytes-decides (drop (length f - w) f) (signature m crc n (take (length f - w) f)) .1
-    (drop-at os s (length f - w) cut ∙ ap (signature m crc n) (sym (take-at os s (length f - w) cut))))
+    fits-append m crc n os s (signature-length m crc n os) ∙ sameBytes-decides s s .1 refl
 
 module _ (m : Model) (laws : Laws m) where
   -- a check value is a register of every kind
@@ -87,15 +109,6 @@ module _ (m : Model) (laws : Laws m) where
       laws .apart r s o hr hs (h .0)
       (feed-apart (m .step r o) (m .step s o) os (laws .closed r o hr (h .0)) (laws .closed s o hs (h .0)) (h .1) e)
 
-  -- a register is below 256 to the power of its octets
-  pub register-small : (r : ℕ) → r < registers (m .width) → r < 256 ^ m .width
-  register-small r h =
-      ⊎-elim (λ e. at 3 e (omega (arith, subst (λ (k : ℕ). r < registers k) e h)))
-      (λ e. at 4 e (omega (arith, subst (λ (k : ℕ). r < registers k) e h))) (laws .wide)
-    where
-      at : (w : ℕ) → m .width ≡ w → r < 256 ^ w → r < 256 ^ m .width
-      at w e s = subst (λ (k : ℕ). r < 256 ^ k) (sym e) s
-
   -- the register that signs, before the frame's own octets
   numbered : (crc n : ℕ) → crc < 2 ^ 16 → feed m crc (octets 3 n) < registers (m .width)
   numbered crc n h = feed-closed crc (octets 3 n) (crc-register crc h) (octets-are 3 n)
@@ -112,9 +125,7 @@ module _ (m : Model) (laws : Laws m) where
       let those : Octets body = all-take (λ o. o < 256) (length f - m .width) f are in
       let same : octets (m .width) (signed m crc a body) ≡ octets (m .width) (signed m crc b body) =
       sym (fits-parts m crc a f ea .1) ∙ fits-parts m crc b f eb .1 in
-      let small : (n : ℕ) → signed m crc n body < 256 ^ m .width =
-      λ n. register-small (signed m crc n body) (signed-register crc n body h those) in
       let one : signed m crc a body ≡ signed m crc b body =
-      octets-inj (m .width) (signed m crc a body) (signed m crc b body) (small a) (small b) same in
+      octets-inj (m .width) (signed m crc a body) (signed m crc b body) (signed-register crc a body h those) (signed-register crc b body h those) same in
       laws .numbers crc a b (crc-register crc h) ha hb
       (feed-apart (feed m crc (octets 3 a)) (feed m crc (octets 3 b)) body (numbered crc a h) (numbered crc b h) those one)

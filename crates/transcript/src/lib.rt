@@ -1,7 +1,11 @@
-// The text that the program prints of a book.
+// The text that the program prints of a book: its replay, line by line.
+
 mod line;
-mod text;
+
+
 
 pub use line::Line;
 pub use line::LineDisplay;
-pub use text::transcript;
+pub use line::Seen;
+pub use line::SeenDisplay;
+

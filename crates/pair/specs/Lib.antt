@@ -1,0 +1,3 @@
+pub mod Views
+pub mod Callings
+pub mod Made

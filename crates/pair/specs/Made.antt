@@ -1,0 +1,21 @@
+-- A call on a pair is a call of the machine.
+use mathlib.Core.Path.{_≡_}
+use mathlib.Core.List.{List}
+use Prim.Native.Nat.{ℕ}
+use lib.ListN.{length}
+use Rattle.signature.specs.Kind.{Model}
+use Rattle.machine.specs.declared.setup.Setup.{Setup}
+use Rattle.machine.specs.Answers.{Answer, written}
+use Rattle.machine.specs.Lines.{Entry}
+use Rattle.machine.specs.Calls.{happens, step}
+use Rattle.pair.specs.declared.call.Call.{Call}
+use Rattle.pair.specs.Callings.{callOf, handAfter}
+use Rattle.pair.specs.Views.{Ends, joinedBy}
+
+-- The call c took the ends from `before` to `next`, with the answer and the buffer, whatever is on the two lines: all
+-- are what the machine makes of it.
+pub record Made (m : Model) (s : Setup) (before next : Ends) (c : Call) (outward inward : List Entry) (answer : Answer) (old new : List ℕ) : Type 0 where
+  pub answers : answer ≡ happens m s (joinedBy before outward inward) (callOf (before .hand) (length old) c) .answer
+  pub state : joinedBy next (step m s (joinedBy before outward inward) (callOf (before .hand) (length old) c) .outward) (step m s (joinedBy before outward inward) (callOf (before .hand) (length old) c) .inward) ≡ step m s (joinedBy before outward inward) (callOf (before .hand) (length old) c)
+  pub hand : next .hand ≡ handAfter (before .held) (before .hand) c
+  pub buffer : new ≡ written (happens m s (joinedBy before outward inward) (callOf (before .hand) (length old) c) .octets) old

@@ -37,4 +37,3 @@ passed false e o h = absurd (none-some (sym h))
 
 pub some-same : {A : Type 0} {a b : A} → _≡_ {A = Option A} (Some a) (Some b) → a ≡ b
 some-same e = cc
-

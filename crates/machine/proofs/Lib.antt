@@ -9,3 +9,6 @@ pub mod Steps
 pub mod Composing
 pub mod Each
 pub mod Takes
+pub mod Kept
+pub mod Stands
+pub mod Unchanged

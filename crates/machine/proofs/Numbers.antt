@@ -5,7 +5,7 @@ use Prim.Native.Nat.{ℕ, _+_, _-_, _%_, _^_, _<_, _≤_, min}
 use native.Mathlib.Omega.{arith}
 use lib.Dec.{ltb}
 use Rattle.std.proofs.shelf.Tests.{ltb-true, ltb-false, cond-both}
-use Rattle.machine.specs.Numbers.{following}
+use Rattle.signature.specs.Numbers.{following}
 
 pub num : ℕ → ℕ
 num i = min i ((i - 1) % 16777215 + 1)

@@ -15,7 +15,7 @@ use Rattle.signature.specs.Kind.{Model}
 use Rattle.machine.specs.declared.phase.HostPhase.{HostPhase}
 use Rattle.machine.specs.declared.phase.Cause.{Cause}
 use Rattle.machine.specs.declared.setup.Setup.{Setup}
-use Rattle.machine.specs.Numbers.{following}
+use Rattle.signature.specs.Numbers.{following}
 use Rattle.machine.specs.HostEnd.{HostState, hostStarted, hostRuns, hostKeeping, hostReleased}
 use Rattle.machine.specs.DeviceEnd.{DeviceState, deviceFaulted, deviceRestarted, deviceRuns, deviceKeeping, deviceAdvanced}
 use Rattle.machine.specs.Lines.{Entry, numberBegun, withoutRestarts}

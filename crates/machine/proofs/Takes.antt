@@ -24,7 +24,7 @@ use Rattle.machine.specs.declared.phase.Cause.the-variants.{Signature, Told}
 use Rattle.machine.specs.declared.judged.HostJudged.{HostJudged}
 use Rattle.machine.specs.declared.judged.DeviceJudged.{DeviceJudged}
 use Rattle.machine.specs.declared.setup.Setup.{Setup}
-use Rattle.machine.specs.Numbers.{following}
+use Rattle.signature.specs.Numbers.{following}
 use Rattle.machine.specs.Frames.{Toggle-d, cons-nr-R, has}
 use Rattle.machine.specs.Answers.{Answer, refused, answers, answered, unless}
 use Rattle.machine.specs.HostEnd.{HostState, hostRuns, hostFits, hostStatus, tellsFault, opens, answersKept, answersPrevious, sameToggle, hostJudgedIn, hostJudged, hostOpened, hostAdvanced, hostTakenIn, hostTakeSays, hostTakeRefused, hostTakeAnswer, hostTakeNext, hostHeldIn, hostHeldAgainst}

@@ -19,7 +19,7 @@ use Rattle.machine.specs.declared.phase.Cause.{Cause}
 use Rattle.machine.specs.declared.phase.Cause.the-variants.{Start, Signature, Time, Told}
 use Rattle.machine.specs.declared.judged.DeviceJudged.{DeviceJudged}
 use Rattle.machine.specs.declared.setup.Setup.{Setup}
-use Rattle.machine.specs.Numbers.{following}
+use Rattle.signature.specs.Numbers.{following}
 use Rattle.machine.specs.Watch.{expired}
 use Rattle.machine.specs.Frames.{R-cons-nr, activate-FV, Toggle-h, Device-Fault, CE-CRC, WD-timeout, FV-activated, Toggle-d, cons-nr-R, has, flag, zeros, composed, frameLength, dataOf, octetOf}
 use Rattle.machine.specs.Answers.{Answer, answered, unless, readRefused, readSays, readValues}

@@ -1,6 +1,5 @@
 -- The machine's definitions, from the words of a listing to the statement over whole runs.
 pub mod Words
-pub mod Numbers
 pub mod Watch
 pub mod Frames
 pub mod Answers
@@ -11,3 +10,4 @@ pub mod Lines
 pub mod Calls
 pub mod Events
 pub mod Statement
+pub mod Refused

@@ -2,6 +2,7 @@
 mod judged;
 mod outcome;
 mod phase;
+mod safety;
 mod setup;
 
 pub use judged::DeviceJudged;
@@ -22,6 +23,8 @@ pub use phase::DevicePhasePartialEq;
 pub use phase::HostPhase;
 pub use phase::HostPhaseDebug;
 pub use phase::HostPhasePartialEq;
+pub use safety::refused_changes_nothing;
+pub use safety::statement_holds;
 pub use setup::Setup;
 pub use setup::SetupDebug;
 pub use setup::SetupPartialEq;

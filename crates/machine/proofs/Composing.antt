@@ -11,7 +11,7 @@ use Rattle.signature.specs.Kind.{Model}
 use Rattle.signature.specs.Laws.{Laws, Octets}
 use Rattle.machine.specs.declared.phase.HostPhase.{HostPhase}
 use Rattle.machine.specs.declared.phase.DevicePhase.{DevicePhase}
-use Rattle.machine.specs.declared.setup.Setup.{Setup}
+use Rattle.block.specs.declared.setup.Setup.{Setup}
 use Rattle.machine.specs.Frames.{has, zeros, composed, octetOf}
 use Rattle.machine.specs.HostEnd.{HostState, hostSafe, hostControl, hostData, hostComposed}
 use Rattle.machine.specs.DeviceEnd.{DeviceState, deviceRuns, flagsFault, deviceSafe, deviceStatus, deviceData, deviceComposed}

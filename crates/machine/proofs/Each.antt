@@ -21,7 +21,7 @@ use Rattle.machine.specs.declared.outcome.Outcome.the-variants.{Fresh, Repeat,
 use Rattle.machine.specs.declared.phase.HostPhase.{HostPhase}
 use Rattle.machine.specs.declared.phase.DevicePhase.{DevicePhase}
 use Rattle.machine.specs.declared.phase.Cause.the-variants.{Time}
-use Rattle.machine.specs.declared.setup.Setup.{Setup}
+use Rattle.block.specs.declared.setup.Setup.{Setup}
 use Rattle.machine.specs.Watch.{expired}
 use Rattle.machine.specs.Answers.{Answer, answers, answered, unless, readRefused, readSays}
 use Rattle.machine.specs.HostEnd.{HostState, hostStarted, hostRuns, hostComposed, hostFrameFrom, hostFrame, hostOfferRefused, hostOfferSays, hostKeeping, hostOfferAnswer, hostOfferNext, hostOfferOctets, hostCounted, hostTicksSays, hostTickedIn, hostTicksAnswer, hostTicksNext, pressAwaited, hostReleased, hostPressAnswer, hostPressNext, hostValues, hostReadAnswer, hostReadOctets}

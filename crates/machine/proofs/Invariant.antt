@@ -8,7 +8,7 @@ use Rattle.std.specs.declared.option.Option.{Option}
 use Rattle.std.specs.declared.option.Option.the-variants.{Some, None}
 use Rattle.std.specs.shelf.Lists.{All}
 use Rattle.signature.specs.Kind.{Model, fitsNumber}
-use Rattle.machine.specs.declared.setup.Setup.{Setup}
+use Rattle.block.specs.declared.setup.Setup.{Setup}
 use Rattle.machine.specs.Frames.{activate-FV, FV-activated, cons-nr-R, has, dataOf}
 use Rattle.machine.specs.HostEnd.{HostState, hostRuns, hostStatus}
 use Rattle.machine.specs.DeviceEnd.{DeviceState, deviceRuns, deviceControl}

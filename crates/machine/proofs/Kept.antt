@@ -19,7 +19,7 @@ use Rattle.machine.specs.declared.phase.DevicePhase.{DevicePhase}
 use Rattle.machine.specs.declared.phase.Cause.the-variants.{Time}
 use Rattle.machine.specs.declared.judged.HostJudged.{HostJudged}
 use Rattle.machine.specs.declared.judged.DeviceJudged.{DeviceJudged}
-use Rattle.machine.specs.declared.setup.Setup.{Setup}
+use Rattle.block.specs.declared.setup.Setup.{Setup}
 use Rattle.machine.specs.Watch.{expired}
 use Rattle.machine.specs.Answers.{Answer, answered, unless}
 use Rattle.machine.specs.HostEnd.{HostState, hostStarted, hostFrameFrom, hostFrame, hostOfferRefused, hostOfferSays, hostKeeping, hostJudged, hostTakenIn, hostTakeRefused, hostTakeNext, hostCounted, hostTickedIn, hostTicksNext, pressAwaited, hostReleased, hostPressNext}

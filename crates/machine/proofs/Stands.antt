@@ -17,7 +17,7 @@ use Rattle.signature.proofs.Given.{one-number}
 use Rattle.machine.specs.declared.outcome.Outcome.{Outcome}
 use Rattle.machine.specs.declared.outcome.Outcome.the-variants.{Waiting, Process, FailSafe}
 use Rattle.machine.specs.declared.phase.DevicePhase.{DevicePhase}
-use Rattle.machine.specs.declared.setup.Setup.{Setup}
+use Rattle.block.specs.declared.setup.Setup.{Setup}
 use Rattle.machine.specs.Frames.{FV-activated, activate-FV, has, zeros}
 use Rattle.machine.specs.Answers.{Answer, refused, answered, unless, readRefused, readSays, readValues}
 use Rattle.machine.specs.HostEnd.{HostState, hostRuns, hostFrame, hostOfferRefused, hostOfferSays, hostKeeping, hostUsable, hostStatus, hostValuesFrom, hostValues}

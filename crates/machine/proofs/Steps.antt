@@ -14,7 +14,7 @@ use Rattle.std.proofs.shelf.Tests.{true≢false, false≢true, both-ways, cases
 use Rattle.signature.specs.Kind.{Model}
 use Rattle.machine.specs.declared.phase.HostPhase.{HostPhase}
 use Rattle.machine.specs.declared.phase.Cause.{Cause}
-use Rattle.machine.specs.declared.setup.Setup.{Setup}
+use Rattle.block.specs.declared.setup.Setup.{Setup}
 use Rattle.signature.specs.Numbers.{following}
 use Rattle.machine.specs.HostEnd.{HostState, hostStarted, hostRuns, hostKeeping, hostReleased}
 use Rattle.machine.specs.DeviceEnd.{DeviceState, deviceFaulted, deviceRestarted, deviceRuns, deviceKeeping, deviceAdvanced}

@@ -23,7 +23,7 @@ use Rattle.machine.specs.declared.phase.DevicePhase.{DevicePhase}
 use Rattle.machine.specs.declared.phase.Cause.the-variants.{Signature, Told}
 use Rattle.machine.specs.declared.judged.HostJudged.{HostJudged}
 use Rattle.machine.specs.declared.judged.DeviceJudged.{DeviceJudged}
-use Rattle.machine.specs.declared.setup.Setup.{Setup}
+use Rattle.block.specs.declared.setup.Setup.{Setup}
 use Rattle.signature.specs.Numbers.{following}
 use Rattle.machine.specs.Frames.{Toggle-d, cons-nr-R, has}
 use Rattle.machine.specs.Answers.{Answer, refused, answers, answered, unless}

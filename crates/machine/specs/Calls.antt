@@ -8,7 +8,7 @@ use Rattle.std.specs.shelf.Lists.{All}
 use Rattle.signature.specs.Kind.{Model}
 use Rattle.signature.specs.Laws.{Octets}
 use Rattle.machine.specs.declared.phase.Cause.the-variants.{Start}
-use Rattle.machine.specs.declared.setup.Setup.{Setup}
+use Rattle.block.specs.declared.setup.Setup.{Setup}
 use Rattle.machine.specs.Answers.{Answer, refused, unless}
 use Rattle.machine.specs.HostEnd.{HostState, hostStarted, hostFits, hostOfferAnswer, hostOfferNext, hostOfferOctets, hostTakeAnswer, hostTakeNext, hostHeldAgainst, hostTicksAnswer, hostTicksNext, hostPressAnswer, hostPressNext, hostReadAnswer, hostReadOctets}
 use Rattle.machine.specs.DeviceEnd.{DeviceState, deviceStarted, deviceFits, deviceOfferAnswer, deviceOfferNext, deviceOfferOctets, deviceTakeAnswer, deviceTakeNext, deviceHeldAgainst, deviceTicksAnswer, deviceTicksNext, deviceReadAnswer, deviceReadOctets}

@@ -18,7 +18,7 @@ use Rattle.machine.specs.declared.phase.DevicePhase.the-variants.{Waiting, Run
 use Rattle.machine.specs.declared.phase.Cause.{Cause}
 use Rattle.machine.specs.declared.phase.Cause.the-variants.{Start, Signature, Time, Told}
 use Rattle.machine.specs.declared.judged.DeviceJudged.{DeviceJudged}
-use Rattle.machine.specs.declared.setup.Setup.{Setup}
+use Rattle.block.specs.declared.setup.Setup.{Setup}
 use Rattle.signature.specs.Numbers.{following}
 use Rattle.machine.specs.Watch.{expired}
 use Rattle.machine.specs.Frames.{R-cons-nr, activate-FV, Toggle-h, Device-Fault, CE-CRC, WD-timeout, FV-activated, Toggle-d, cons-nr-R, has, flag, zeros, composed, frameLength, dataOf, octetOf}

@@ -20,7 +20,7 @@ use Rattle.machine.specs.declared.phase.HostPhase.the-variants.{Restart, Run}
 use Rattle.machine.specs.declared.phase.Cause.{Cause}
 use Rattle.machine.specs.declared.phase.Cause.the-variants.{Signature, Time, Told}
 use Rattle.machine.specs.declared.judged.HostJudged.{HostJudged}
-use Rattle.machine.specs.declared.setup.Setup.{Setup}
+use Rattle.block.specs.declared.setup.Setup.{Setup}
 use Rattle.signature.specs.Numbers.{following}
 use Rattle.machine.specs.Watch.{expired}
 use Rattle.machine.specs.Frames.{OA-Req, activate-FV, Toggle-h, Device-Fault, CE-CRC, WD-timeout, FV-activated, Toggle-d, cons-nr-R, has, flag, zeros, composed, frameLength, dataOf, octetOf}

@@ -8,7 +8,7 @@ use Rattle.std.specs.declared.result.Result.the-variants.{Ok}
 use Rattle.signature.specs.Kind.{Model, fitsNumber}
 use Rattle.signature.specs.Laws.{Laws, Octets, Burst}
 use Rattle.machine.specs.declared.outcome.Outcome.the-variants.{Fresh, Waiting, Process, FailSafe}
-use Rattle.machine.specs.declared.setup.Setup.{Setup}
+use Rattle.block.specs.declared.setup.Setup.{Setup}
 use Rattle.machine.specs.Frames.{zeros}
 use Rattle.machine.specs.Answers.{refused}
 use Rattle.machine.specs.Calls.{Call, Event, Pair, happens, after, history, Admissible}

@@ -2,7 +2,7 @@
 use mathlib.Core.Bool.{Bool}
 use Prim.Native.Nat.{ℕ, _*_, _<_}
 use lib.Dec.{leb}
-use Rattle.machine.specs.declared.setup.Setup.{Setup}
+use Rattle.block.specs.declared.setup.Setup.{Setup}
 
 -- the ticks counted since the last new frame have reached the watch time
 abbrev pub expired : Setup → ℕ → Bool

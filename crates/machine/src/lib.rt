@@ -3,7 +3,6 @@ mod judged;
 mod outcome;
 mod phase;
 mod safety;
-mod setup;
 
 pub use judged::DeviceJudged;
 pub use judged::DeviceJudgedDebug;
@@ -25,6 +24,3 @@ pub use phase::HostPhaseDebug;
 pub use phase::HostPhasePartialEq;
 pub use safety::refused_changes_nothing;
 pub use safety::statement_holds;
-pub use setup::Setup;
-pub use setup::SetupDebug;
-pub use setup::SetupPartialEq;

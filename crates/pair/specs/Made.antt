@@ -4,7 +4,7 @@ use mathlib.Core.List.{List}
 use Prim.Native.Nat.{ℕ}
 use lib.ListN.{length}
 use Rattle.signature.specs.Kind.{Model}
-use Rattle.machine.specs.declared.setup.Setup.{Setup}
+use Rattle.block.specs.declared.setup.Setup.{Setup}
 use Rattle.machine.specs.Answers.{Answer, written}
 use Rattle.machine.specs.Lines.{Entry}
 use Rattle.machine.specs.Calls.{happens, step}

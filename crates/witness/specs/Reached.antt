@@ -7,7 +7,7 @@ use Rattle.std.specs.declared.result.Result.the-variants.{Ok}
 use Rattle.std.specs.shelf.Text.{sameBytes}
 use Rattle.signature.specs.Kind.{Model}
 use Rattle.machine.specs.declared.outcome.Outcome.the-variants.{Fresh, Process}
-use Rattle.machine.specs.declared.setup.Setup.{Setup}
+use Rattle.block.specs.declared.setup.Setup.{Setup}
 use Rattle.machine.specs.Calls.{Call, hostOffer, toDevice, deviceOffer, toHost, hostTicks, deviceTicks, button, press, hostRead, deviceRead, Event, happens, after, history}
 use Rattle.machine.specs.Events.{End, host, device, other, Reads, Offers, ticksGiven}
 

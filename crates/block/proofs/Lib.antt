@@ -1,2 +1,3 @@
--- The lemmas behind the contracts of this crate.
-mod InOrder
+-- The lemmas behind the contracts of this crate, and what they give to others.
+pub mod InOrder
+pub mod Taken

@@ -42,6 +42,10 @@ impl Button {
         }
         let rises = reading == 1 && !self.held;
         self.held = reading == 1;
-        Ok(if rises { Some(Press { made: () }) } else { None })
+        Ok(if rises {
+            Some(Press { made: () })
+        } else {
+            None
+        })
     }
 }

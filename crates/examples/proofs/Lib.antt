@@ -1,0 +1,1 @@
+-- The lemmas behind the contracts of this crate.

@@ -1,0 +1,9 @@
+// Known figures, proved of the definitions by one finite check.
+ghost use mathlib.Core.Bool.{true};
+ghost use mathlib.Core.Path.{_≡_};
+ghost use Rattle.examples.specs.Known.{known};
+
+// The definitions give the known table entries, signatures, check value and fitting frames.
+pub fn figures_are_known()
+    ensures { λ _. ⌜ known ≡ true ⌝ }
+{}

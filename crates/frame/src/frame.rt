@@ -24,7 +24,8 @@ pub struct Frame {
 }
 
 fn blank() -> [u8; ROOM]
-    ensures { λ r. ⌜ ((n : ℕ) → n ≤ 260 → take n r ≡ replicate n 0) ⌝ }
+    ensures zeros { λ r. ⌜ ((n : ℕ) → n ≤ 260 → take n r ≡ replicate n 0) ⌝ }
+    ensures size { λ r. ⌜ ((n : ℕ) → n ≤ 260 → length (take n r) ≡ n) ⌝ }
 {
     [0; ROOM]
 }
@@ -32,7 +33,8 @@ fn blank() -> [u8; ROOM]
 impl Frame {
     // Fail-safe data.
     pub fn zeros(count: u8) -> Frame
-        ensures { λ r. ⌜ framed r ≡ zeros count ⌝ }
+        ensures zeros { λ r. ⌜ framed r ≡ zeros count ⌝ }
+        ensures size { λ r. ⌜ length (framed r) ≡ count ⌝ }
     {
         Frame {
             octets: blank(),

@@ -6,7 +6,7 @@ ghost use Rattle.device.specs.View.{deviceView};
 use frame::Frame;
 use machine::Cause;
 use machine::DevicePhase;
-use machine::Setup;
+use block::Setup;
 use signature::Number;
 use signature::SignatureKind;
 use std::marker::PhantomData;

@@ -5,8 +5,9 @@ ghost use Rattle.host.specs.Presses.{aPress};
 use refusal::Reason;
 use refusal::Refusal;
 
-// A press of the button. Only a reading makes one. It is neither copied nor let go, so that each is
-// handed to a host, and to one alone.
+// A press of the button. Only a reading makes one. It is not copied, so that it is handed to one host
+// at most, once; one that is never handed in is lost, which is the safe side.
+#[derive(Drop)]
 pub struct Press {
     made: (),
 }

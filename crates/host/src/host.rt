@@ -21,7 +21,7 @@ use machine::Cause;
 use machine::HostJudged;
 use machine::HostPhase;
 use machine::Outcome;
-use machine::Setup;
+use block::Setup;
 use refusal::Reason;
 use refusal::Refusal;
 use signature::Number;

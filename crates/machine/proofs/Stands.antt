@@ -241,16 +241,16 @@ older-part m s [] c older a = a
 older-part m s (x ∷ newer) c older a = older-part m s newer c older (a .0)
 
 pub safe : Statement
-safe m laws s checked = record {
-  values = λ calls a newer c older e k r. values-here m s older (inv older (part calls a newer c older e .0)) k c r;
-  failSafe = λ calls a newer c older e k r x. acknowledged-here m s older (inv older (part calls a newer c older e .0)) k c r x;
-  framesFit = λ calls a newer c older e k v o x. fits-here m s older k v c o (inv (c ∷ older) (part calls a newer c older e)) x;
-  oneNumber = λ f o a b ha hb fa fb. one-number m laws (s .crc) a b f (checked .small) ha hb o fa fb;
+safe m laws s checked calls a = record {
+  values = λ newer c older e k r. values-here m s older (inv older (part newer c older e .0)) k c r;
+  failSafe = λ newer c older e k r x. acknowledged-here m s older (inv older (part newer c older e .0)) k c r x;
+  framesFit = λ newer c older e k v o x. fits-here m s older k v c o (inv (c ∷ older) (part newer c older e)) x;
+  oneNumber = λ f o p q hp hq fp fq. one-number m laws (s .crc) p q f (checked .small) hp hq o fp fq;
   burstsSeen = λ f g of og b n hn ff. elim (cases-bool (fitsNumber m (s .crc) n g)) [ inl x ↦ absurd (laws .bursts (s .crc) n f g (checked .small) hn of og b ff x) | inr x ↦ x ];
 }
   where
-    inv : (calls : List Call) → Admissible m s calls → InvAt m s (history m s calls) (after m s calls)
+    inv : (cs : List Call) → Admissible m s cs → InvAt m s (history m s cs) (after m s cs)
     inv = always m laws s checked
 
-    part : (calls : List Call) → Admissible m s calls → (newer : List Call) (c : Call) (older : List Call) → calls ≡ newer ++ (c ∷ older) → Admissible m s (c ∷ older)
-    part calls a newer c older e = older-part m s newer c older (subst (Admissible m s) e a)
+    part : (newer : List Call) (c : Call) (older : List Call) → calls ≡ newer ++ (c ∷ older) → Admissible m s (c ∷ older)
+    part newer c older e = older-part m s newer c older (subst (Admissible m s) e a)

@@ -19,10 +19,9 @@ pub record Checked (s : Setup) : Type 0 where
   pub watched : 0 < s .watch
   pub small : s .crc < 2 ^ 16
 
--- P holds of each call c that is made after the calls older, in every list that the lines allow
-abbrev pub Everywhere : Model → Setup → (List Call → Call → Type 0) → Type 0
-Everywhere m s P =
-    (calls : List Call) → Admissible m s calls → (newer : List Call) (c : Call) (older : List Call) → calls ≡ newer ++ (c ∷ older) → P older c
+-- P holds at every place of a list: of each call c in it, made after the calls older
+abbrev pub Everywhere : List Call → (List Call → Call → Type 0) → Type 0
+Everywhere calls P = (newer : List Call) (c : Call) (older : List Call) → calls ≡ newer ++ (c ∷ older) → P older c
 
 -- ---- values
 
@@ -38,9 +37,9 @@ pub data HandsOut (s : Setup) (e : End) (past : List Event) (ev : Event) : Type 
   failSafeValues : ev .answer ≡ Ok FailSafe → ev .octets ≡ zeros (readLength s e) → HandsOut s e past ev
   nothing : refused (ev .answer) ≡ true → ev .octets ≡ [] → HandsOut s e past ev
 
-abbrev pub Values : Model → Setup → Type 0
-Values m s =
-    Everywhere m s (λ older c. (e : End) → Reads e c → HandsOut s e (history m s older) (happens m s (after m s older) c))
+abbrev pub Values : Model → Setup → List Call → Type 0
+Values m s calls =
+    Everywhere calls (λ older c. (e : End) → Reads e c → HandsOut s e (history m s older) (happens m s (after m s older) c))
 
 -- ---- fail-safe until a press
 
@@ -50,9 +49,9 @@ pub record Acknowledged (e : End) (past : List Event) : Type 0 where
   pub sinceFaults : (since : List Event) (ev : Event) (earlier : List Event) → past ≡ since ++ (ev ∷ earlier) → Faults e ev → PressTaken since
 
 -- an end that hands out process values is acknowledged, so before that it hands out fail-safe values only
-abbrev pub FailSafeUntilPress : Model → Setup → Type 0
-FailSafeUntilPress m s =
-    Everywhere m s (λ older c. (e : End) → Reads e c → happens m s (after m s older) c .answer ≡ Ok Process → Acknowledged e (history m s older))
+abbrev pub FailSafeUntilPress : Model → Setup → List Call → Type 0
+FailSafeUntilPress m s calls =
+    Everywhere calls (λ older c. (e : End) → Reads e c → happens m s (after m s older) c .answer ≡ Ok Process → Acknowledged e (history m s older))
 
 -- ---- frames
 
@@ -77,9 +76,9 @@ pub record ComposedUnder (m : Model) (s : Setup) (e : End) (f : List ℕ) (n : �
   pub number : numberAt (after m s older) e ≡ n
 
 -- every frame written fits the number it was composed under
-abbrev pub FramesFit : Model → Setup → Type 0
-FramesFit m s =
-    Everywhere m s (λ older c. (e : End) (values : List ℕ) → Offers e values c → refused (happens m s (after m s older) c .answer) ≡ false
+abbrev pub FramesFit : Model → Setup → List Call → Type 0
+FramesFit m s calls =
+    Everywhere calls (λ older c. (e : End) (values : List ℕ) → Offers e values c → refused (happens m s (after m s older) c .answer) ≡ false
     → (n : ℕ) × ComposedUnder m s e (happens m s (after m s older) c .octets) n (c ∷ older) × (fitsNumber m (s .crc) n (happens m s (after m s older) c .octets) ≡ true))
 
 -- no frame fits two numbers
@@ -96,13 +95,14 @@ BurstsSeen m s =
 
 -- ---- the whole
 
-pub record Safe (m : Model) (s : Setup) : Type 0 where
-  pub values : Values m s
-  pub failSafe : FailSafeUntilPress m s
-  pub framesFit : FramesFit m s
+-- what holds of a pair in a list of calls
+pub record Safe (m : Model) (s : Setup) (calls : List Call) : Type 0 where
+  pub values : Values m s calls
+  pub failSafe : FailSafeUntilPress m s calls
+  pub framesFit : FramesFit m s calls
   pub oneNumber : OneNumber m s
   pub burstsSeen : BurstsSeen m s
 
--- for every signature kind that keeps the laws, and every checked block
+-- for every signature kind that keeps the laws, every checked block, and every list of calls that the lines allow
 abbrev pub Statement : Type 0
-Statement = (m : Model) → Laws m → (s : Setup) → Checked s → Safe m s
+Statement = (m : Model) → Laws m → (s : Setup) → Checked s → (calls : List Call) → Admissible m s calls → Safe m s calls

@@ -8,8 +8,10 @@ ghost use Rattle.machine.specs.declared.phase.Cause.the-variants.{Start};
 ghost use Rattle.machine.specs.HostEnd.{hostAdvanced, hostComposed, hostControl, hostFits, hostJudged, hostOfferAnswer, hostOfferNext, hostOfferOctets, hostOpened, hostPressAnswer, hostPressNext, hostReadAnswer, hostReadOctets, hostSafe, hostStarted, hostTakeAnswer, hostTakeNext, hostTicksAnswer, hostTicksNext, hostUsable};
 ghost use Rattle.machine.specs.Answers.{written};
 ghost use Rattle.frame.specs.Held.{framed};
+ghost use Rattle.host.specs.Start.{setupFrom};
 ghost use Rattle.host.specs.View.{hostView};
 use crate::button::Press;
+use block::CheckedBlock;
 use frame::Frame;
 use frame::control;
 use frame::flag;
@@ -46,6 +48,20 @@ pub struct Host<K: SignatureKind> {
 }
 
 impl<K: SignatureKind> Host<K> {
+    // Starts a host from a checked block, which is used up.
+    pub fn start(checked: CheckedBlock<K>) -> Host<K>
+        ensures view { λ r. ⌜ hostView r ≡ hostStarted Start ⌝ }
+        ensures setup { λ r. ⌜ r .setup ≡ setupFrom (checked .setup) ⌝ }
+    {
+        let parameters = checked.into_setup();
+        Host::started(Setup {
+            crc: parameters.crc,
+            watch: parameters.watch,
+            out_len: parameters.out_len,
+            in_len: parameters.in_len,
+        })
+    }
+
     // A host that starts.
     fn started(setup: Setup) -> Host<K>
         ensures view { λ r. ⌜ hostView r ≡ hostStarted Start ⌝ }

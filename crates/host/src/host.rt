@@ -5,10 +5,9 @@ ghost use lib.ListN.{length};
 ghost use Rattle.std.specs.Options.{isSome};
 ghost use Rattle.signature.specs.Numbers.{numeral};
 ghost use Rattle.machine.specs.declared.phase.Cause.the-variants.{Start};
-ghost use Rattle.machine.specs.HostEnd.{hostAdvanced, hostComposed, hostControl, hostFits, hostJudged, hostOfferAnswer, hostOfferNext, hostOfferOctets, hostOpened, hostPressAnswer, hostPressNext, hostReadAnswer, hostReadOctets, hostSafe, hostStarted, hostTakeAnswer, hostTakeNext, hostTicksAnswer, hostTicksNext, hostUsable};
-ghost use Rattle.machine.specs.Answers.{written};
+ghost use Rattle.machine.specs.HostEnd.{hostAdvanced, hostComposed, hostControl, hostFits, hostJudged, hostOfferAnswer, hostOfferNext, hostOfferOctets, hostOpened, hostPressAnswer, hostPressNext, hostReadAnswer, hostReadOctets, hostSafe, hostStarted, hostTakeAnswer, hostTakeNext, hostTicksAnswer, hostTicksNext, hostUsable, hostValues};
+ghost use Rattle.machine.specs.Answers.{readSays, written};
 ghost use Rattle.frame.specs.Held.{framed};
-ghost use Rattle.host.specs.Start.{setupFrom};
 ghost use Rattle.host.specs.View.{hostView};
 use crate::button::Press;
 use block::CheckedBlock;
@@ -51,15 +50,9 @@ impl<K: SignatureKind> Host<K> {
     // Starts a host from a checked block, which is used up.
     pub fn start(checked: CheckedBlock<K>) -> Host<K>
         ensures view { λ r. ⌜ hostView r ≡ hostStarted Start ⌝ }
-        ensures setup { λ r. ⌜ r .setup ≡ setupFrom (checked .setup) ⌝ }
+        ensures setup { λ r. ⌜ r .setup ≡ checked .setup ⌝ }
     {
-        let parameters = checked.into_setup();
-        Host::started(Setup {
-            crc: parameters.crc,
-            watch: parameters.watch,
-            out_len: parameters.out_len,
-            in_len: parameters.in_len,
-        })
+        Host::started(checked.into_setup())
     }
 
     // A host that starts.
@@ -115,6 +108,22 @@ impl<K: SignatureKind> Host<K> {
         ensures { λ r. ⌜ r ≡ hostView (now (self .entry)) .cause ⌝ }
     {
         self.cause
+    }
+
+    pub fn setup(&self) -> Setup
+        ensures { λ r. ⌜ r ≡ now (self .entry) .setup ⌝ }
+    {
+        self.setup
+    }
+
+    // What a reading would answer.
+    pub fn reading(&self) -> Outcome
+        ensures { λ r. ⌜ r ≡ readSays (hostValues (now (self .entry) .setup) (hostView (now (self .entry)))) ⌝ }
+    {
+        match self.answer {
+            Some(answer) if self.usable(&answer) => Outcome::Process,
+            _ => Outcome::FailSafe,
+        }
     }
 
     // Writes the kept frame again, else composes one, keeps it and writes it.

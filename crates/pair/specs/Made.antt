@@ -1,5 +1,6 @@
 -- A call on a pair is a call of the machine.
 use mathlib.Core.Path.{_≡_}
+use mathlib.Core.Bool.{Bool}
 use mathlib.Core.List.{List}
 use Prim.Native.Nat.{ℕ}
 use lib.ListN.{length}
@@ -7,7 +8,8 @@ use Rattle.signature.specs.Kind.{Model}
 use Rattle.block.specs.declared.setup.Setup.{Setup}
 use Rattle.machine.specs.Answers.{Answer, written}
 use Rattle.machine.specs.Lines.{Entry}
-use Rattle.machine.specs.Calls.{happens, step}
+use Rattle.machine.specs.Calls.{happens, step, after}
+use Rattle.machine.specs.Calls as machine
 use Rattle.pair.specs.declared.call.Call.{Call}
 use Rattle.pair.specs.Callings.{callOf, handAfter}
 use Rattle.pair.specs.Views.{Ends, joinedBy}
@@ -19,3 +21,8 @@ pub record Made (m : Model) (s : Setup) (before next : Ends) (c : Call) (outward
   pub state : joinedBy next (step m s (joinedBy before outward inward) (callOf (before .hand) (length old) c) .outward) (step m s (joinedBy before outward inward) (callOf (before .hand) (length old) c) .inward) ≡ step m s (joinedBy before outward inward) (callOf (before .hand) (length old) c)
   pub hand : next .hand ≡ handAfter (before .held) (before .hand) c
   pub buffer : new ≡ written (happens m s (joinedBy before outward inward) (callOf (before .hand) (length old) c) .octets) old
+
+-- the ends, with the frames on the two lines, are where the machine is after these calls
+pub record At (m : Model) (s : Setup) (calls : List machine.Call) (hand : Bool) (e : Ends) : Type 0 where
+  pub state : joinedBy e (after m s calls .outward) (after m s calls .inward) ≡ after m s calls
+  pub hand : e .hand ≡ hand

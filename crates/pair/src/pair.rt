@@ -11,8 +11,9 @@ ghost use Rattle.machine.specs.Lines.{Entry};
 ghost use Rattle.host.specs.View.{hostView};
 ghost use Rattle.pair.specs.Callings.{callOf, handAfter};
 ghost use Rattle.pair.specs.Made.{Made};
-ghost use Rattle.pair.specs.Views.{ends};
+ghost use Rattle.pair.specs.Views.{blankEnds, ends};
 use crate::call::Call;
+use block::CheckedBlock;
 use device::Device;
 use host::Button;
 use host::Host;
@@ -31,6 +32,32 @@ pub struct Pair<H: SignatureKind, D: SignatureKind> {
 }
 
 impl<H: SignatureKind, D: SignatureKind> Pair<H, D> {
+    // Starts both ends from their checked blocks, which are used up, and a new button.
+    pub fn start(host: CheckedBlock<H>, device: CheckedBlock<D>) -> Pair<H, D>
+        ensures blank { λ r. ⌜ ends r ≡ blankEnds ⌝ }
+        ensures host { λ r. ⌜ r .host .setup ≡ host .setup ⌝ }
+        ensures device { λ r. ⌜ r .device .setup ≡ device .setup ⌝ }
+    {
+        Pair {
+            host: Host::start(host),
+            device: Device::start(device),
+            button: Button::new(),
+            press: None,
+        }
+    }
+
+    pub fn host(&self) -> &Host<H>
+        ensures { λ r. ⌜ now r ≡ now (self .entry) .host ⌝ }
+    {
+        &self.host
+    }
+
+    pub fn device(&self) -> &Device<D>
+        ensures { λ r. ⌜ now r ≡ now (self .entry) .device ⌝ }
+    {
+        &self.device
+    }
+
     // Reads the button; a press that it yields waits to be handed over.
     fn read_button(&mut self, reading: u8) -> Result<Outcome, Refusal>
         ensures answer { λ r. ⌜ r ≡ buttonAnswer reading ⌝ }

@@ -1,11 +1,10 @@
 // The text that the program prints of a book: its replay, line by line.
-
+mod bench;
 mod line;
+mod octets;
 
-
-
+pub use bench::Bench;
 pub use line::Line;
 pub use line::LineDisplay;
 pub use line::Seen;
 pub use line::SeenDisplay;
-

@@ -1,0 +1,2 @@
+-- The runs, computed.
+mod Computed

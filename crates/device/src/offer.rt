@@ -1,9 +1,12 @@
 // Offers: how the device composes an answer, keeps it and writes it.
 ghost use mathlib.Core.Path.{_≡_};
+ghost use mathlib.Core.List.{[]};
 ghost use Prim.Native.Nat.{_≤_};
 ghost use lib.ListN.{length};
-ghost use Rattle.machine.specs.Answers.{written};
-ghost use Rattle.machine.specs.DeviceEnd.{causeBit, deviceComposed, deviceData, deviceFrame, deviceOfferAnswer, deviceOfferNext, deviceOfferOctets, deviceOfferSays, deviceOfferedIn, deviceSafe, deviceStatus};
+ghost use Rattle.machine.specs.Answers.{answered, readRefused, unless, written};
+ghost use Rattle.machine.specs.DeviceEnd.{causeBit, deviceData, deviceFrame, deviceOfferAnswer, deviceOfferNext, deviceOfferOctets, deviceOfferSays, deviceOfferedIn, deviceSafe, deviceStatus};
+ghost use Rattle.machine.specs.Frames.{composed, zeros};
+ghost use Rattle.machine.specs.declared.phase.DevicePhase.the-variants.{Run, Waiting};
 ghost use Rattle.frame.specs.Held.{framed};
 ghost use Rattle.device.specs.View.{deviceView};
 use crate::end::Device;
@@ -47,64 +50,76 @@ impl<K: SignatureKind> Device<K> {
         self.number.is_zero() || has(flags, FAIL_SAFE)
     }
 
-    fn status(&self, flags: u8) -> u8
-        ensures { λ r. ⌜ r ≡ deviceStatus (deviceView (now (self .entry)) .phase) (deviceView (now (self .entry))) flags ⌝ }
+    // The status octet while the device waits: it tells of the fault that was noted.
+    fn waiting_status(&self, flags: u8) -> u8
+        ensures { λ r. ⌜ r ≡ deviceStatus Waiting (deviceView (now (self .entry))) flags ⌝ }
     {
-        let fault = flag(has(flags, HAS_FAULT), DEVICE_FAULT);
-        let toggle = flag(self.toggle, TOGGLE_D);
-        match self.phase {
-            DevicePhase::Waiting => fault | cause_bit(self.cause) | FV_ACTIVATED | toggle,
-            DevicePhase::Run => {
-                let safe = flag(self.safe(flags), FV_ACTIVATED);
-                let restarted = flag(self.number.is_zero(), CONS_NR_R);
-                fault | safe | toggle | restarted
-            }
-        }
+        flag(has(flags, HAS_FAULT), DEVICE_FAULT)
+            | cause_bit(self.cause)
+            | FV_ACTIVATED
+            | flag(self.toggle, TOGGLE_D)
     }
 
-    // The data that an offer sends.
-    fn sent(&self, values: &[u8], flags: u8) -> Frame
-        requires { ⌜ length (now values) ≡ now self .setup .«in_len» ⌝ }
-        ensures octets { λ r. ⌜ framed r ≡ deviceData (deviceView (now (self .entry)) .phase) (now (self .entry) .setup) (deviceView (now (self .entry))) (now (values .entry)) flags ⌝ }
-        ensures few { λ r. ⌜ length (framed r) ≤ 255 ⌝ }
+    // The status octet in run.
+    fn run_status(&self, flags: u8) -> u8
+        ensures { λ r. ⌜ r ≡ deviceStatus Run (deviceView (now (self .entry))) flags ⌝ }
     {
-        match self.phase {
-            DevicePhase::Run if !self.safe(flags) => Frame::of(values),
-            _ => Frame::zeros(self.setup.in_len),
-        }
+        flag(has(flags, HAS_FAULT), DEVICE_FAULT)
+            | flag(self.safe(flags), FV_ACTIVATED)
+            | flag(self.toggle, TOGGLE_D)
+            | flag(self.number.is_zero(), CONS_NR_R)
     }
 
-    // The frame that an offer composes.
-    fn composed(&self, values: &[u8], flags: u8) -> Frame
-        requires { ⌜ length (now values) ≡ now self .setup .«in_len» ⌝ }
-        ensures { λ r. ⌜ framed r ≡ deviceComposed (K·SignatureKind .model) (now (self .entry) .setup) (deviceView (now (self .entry))) (now (values .entry)) flags ⌝ }
+    // A frame of fail-safe values.
+    fn safe_frame(&self, status: u8) -> Frame
+        ensures { λ r. ⌜ framed r ≡ composed (K·SignatureKind .model) (now (self .entry) .setup .crc) (deviceView (now (self .entry)) .number) (zeros (now (self .entry) .setup .«in_len»)) status ⌝ }
     {
-        let sent = self.sent(values, flags);
-        Frame::compose::<K>(self.setup.crc, self.number, sent.as_slice(), self.status(flags))
+        let zeros = Frame::zeros(self.setup.in_len);
+        Frame::compose::<K>(self.setup.crc, self.number, zeros.as_slice(), status)
+    }
+
+    // The frame that an offer composes in run.
+    fn run_frame(&self, values: &[u8], flags: u8) -> Frame
+        requires { ⌜ length (now values) ≤ 255 ⌝ }
+        ensures { λ r. ⌜ framed r ≡ composed (K·SignatureKind .model) (now (self .entry) .setup .crc) (deviceView (now (self .entry)) .number) (deviceData Run (now (self .entry) .setup) (deviceView (now (self .entry))) (now (values .entry)) flags) (deviceStatus Run (deviceView (now (self .entry))) flags) ⌝ }
+    {
+        let status = self.run_status(flags);
+        if self.safe(flags) {
+            self.safe_frame(status)
+        } else {
+            Frame::compose::<K>(self.setup.crc, self.number, values, status)
+        }
     }
 
     // The frame that an offer writes: in run the kept answer if there is one, else a new one.
     fn answer(&self, values: &[u8], flags: u8) -> Frame
-        requires { ⌜ length (now values) ≡ now self .setup .«in_len» ⌝ }
+        requires { ⌜ length (now values) ≤ 255 ⌝ }
         ensures { λ r. ⌜ framed r ≡ deviceFrame (K·SignatureKind .model) (now (self .entry) .setup) (deviceView (now (self .entry))) (now (values .entry)) flags ⌝ }
     {
         match (self.phase, self.kept) {
+            (DevicePhase::Waiting, _) => self.safe_frame(self.waiting_status(flags)),
             (DevicePhase::Run, Some(kept)) => kept,
-            _ => self.composed(values, flags),
+            (DevicePhase::Run, None) => self.run_frame(values, flags),
         }
     }
 
-    // Keeps the frame that was written, in run, and says what it was.
-    fn keep(&mut self, frame: Frame) -> Outcome
-        ensures outcome { λ r. ⌜ r ≡ deviceOfferSays (deviceView (now (self .entry)) .phase) (deviceView (now (self .entry))) ⌝ }
-        ensures next { λ _. ⌜ deviceView (now (self .exit)) ≡ deviceOfferedIn (deviceView (now (self .entry)) .phase) (deviceView (now (self .entry))) (framed frame) ⌝ }
+    // Writes a frame to the front of a buffer that has room for it; in run the frame is kept.
+    fn write(&mut self, frame: Frame, buffer: &mut [u8]) -> Result<Outcome, Refusal>
+        ensures answer { λ r. ⌜ r ≡ answered (readRefused (length (framed frame)) (length (now (buffer .entry)))) (deviceOfferSays (deviceView (now (self .entry)) .phase) (deviceView (now (self .entry)))) ⌝ }
+        ensures next { λ _. ⌜ deviceView (now (self .exit)) ≡ unless (readRefused (length (framed frame)) (length (now (buffer .entry)))) (deviceView (now (self .entry))) (deviceOfferedIn (deviceView (now (self .entry)) .phase) (deviceView (now (self .entry))) (framed frame)) ⌝ }
         ensures setup { λ _. ⌜ now (self .exit) .setup ≡ now (self .entry) .setup ⌝ }
+        ensures buffer { λ _. ⌜ now (buffer .exit) ≡ written (unless (readRefused (length (framed frame)) (length (now (buffer .entry)))) [] (framed frame)) (now (buffer .entry)) ⌝ }
     {
+        let octets = frame.as_slice();
+        if buffer.len() < octets.len() {
+            return Err(Refusal::at(Reason::BufferLength, 0));
+        }
+        write_front(buffer, octets);
         match self.phase {
-            DevicePhase::Waiting => Outcome::Waiting,
+            DevicePhase::Waiting => Ok(Outcome::Waiting),
             DevicePhase::Run => match self.kept.replace(frame) {
-                Some(_) => Outcome::Repeat,
-                None => Outcome::Fresh,
+                Some(_) => Ok(Outcome::Repeat),
+                None => Ok(Outcome::Fresh),
             },
         }
     }
@@ -124,11 +139,6 @@ impl<K: SignatureKind> Device<K> {
             return Err(Refusal::at(Reason::InputRange, 0));
         }
         let frame = self.answer(values, flags);
-        let octets = frame.as_slice();
-        if buffer.len() < octets.len() {
-            return Err(Refusal::at(Reason::BufferLength, 0));
-        }
-        write_front(buffer, octets);
-        Ok(self.keep(frame))
+        self.write(frame, buffer)
     }
 }

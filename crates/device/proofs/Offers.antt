@@ -7,7 +7,7 @@ use lib.Dec.{eqb, ltb}
 use lib.ListN.{length}
 use Rattle.std.proofs.shelf.Tests.{cond-false, not-from-true, eq-eqb, le-ltb}
 use Rattle.signature.specs.Kind.{Model}
-use Rattle.machine.specs.declared.setup.Setup.{Setup}
+use Rattle.block.specs.declared.setup.Setup.{Setup}
 use Rattle.machine.specs.Answers.{Answer, answered, unless, readRefused, written}
 use Rattle.machine.specs.DeviceEnd.{DeviceState, deviceFrame, deviceOfferRefused, deviceOfferSays, deviceOfferedIn, deviceOfferAnswer, deviceOfferNext, deviceOfferOctets}
 

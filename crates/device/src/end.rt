@@ -6,6 +6,7 @@ ghost use Rattle.device.specs.View.{deviceView};
 use frame::Frame;
 use machine::Cause;
 use machine::DevicePhase;
+use block::CheckedBlock;
 use block::Setup;
 use signature::Number;
 use signature::SignatureKind;
@@ -27,6 +28,14 @@ pub struct Device<K: SignatureKind> {
 }
 
 impl<K: SignatureKind> Device<K> {
+    // Starts a device from a checked block, which is used up.
+    pub fn start(checked: CheckedBlock<K>) -> Device<K>
+        ensures view { λ r. ⌜ deviceView r ≡ deviceStarted ⌝ }
+        ensures setup { λ r. ⌜ r .setup ≡ checked .setup ⌝ }
+    {
+        Device::started(checked.into_setup())
+    }
+
     // A device that waits for a restart frame.
     fn started(setup: Setup) -> Device<K>
         ensures view { λ r. ⌜ deviceView r ≡ deviceStarted ⌝ }

@@ -22,7 +22,7 @@ pub record Made (m : Model) (s : Setup) (before next : Ends) (c : Call) (outward
   pub hand : next .hand ≡ handAfter (before .held) (before .hand) c
   pub buffer : new ≡ written (happens m s (joinedBy before outward inward) (callOf (before .hand) (length old) c) .octets) old
 
--- the ends, with the frames on the two lines, are where the machine is after these calls
-pub record At (m : Model) (s : Setup) (calls : List machine.Call) (hand : Bool) (e : Ends) : Type 0 where
+-- the ends, with the frames on the two lines, are where the machine is after these calls, and a press waits or not
+pub record At (m : Model) (s : Setup) (calls : List machine.Call) (waits : Bool) (e : Ends) : Type 0 where
   pub state : joinedBy e (after m s calls .outward) (after m s calls .inward) ≡ after m s calls
-  pub hand : e .hand ≡ hand
+  pub hand : e .hand ≡ waits

@@ -1,8 +1,8 @@
 // A host and a device end with a button, and lists of calls on them.
 mod call;
 mod pair;
-mod run;
+mod runner;
 
 pub use call::Call;
 pub use pair::Pair;
-pub use run::run;
+pub use runner::run;

@@ -47,8 +47,8 @@ saw x =
 abbrev pub said : Line → List ℕ
 said (Done place kind outcome seen) =
     decimal place ++ (codes " " ++ (wordOf kind ++ (codes " " ++ (outcomeName outcome ++ (codes " " ++ saw seen)))))
-said (TurnedDown place kind e) =
-    decimal place ++ (codes " " ++ (wordOf kind ++ (codes " refused " ++ (decimal (numberOf (e .reason)) ++ (codes " " ++ decimal (e .place))))))
+said (TurnedDown place kind reason octet) =
+    decimal place ++ (codes " " ++ (wordOf kind ++ (codes " refused " ++ (decimal (numberOf reason) ++ (codes " " ++ decimal octet)))))
 said (Ended size records) = codes "end " ++ (decimal size ++ (codes " " ++ decimal records))
 said (Refused e) = codes "refused " ++ (decimal (numberOf (e .reason)) ++ (codes " " ++ decimal (e .place)))
 

@@ -1,7 +1,10 @@
 // The text that the program prints of a book: its replay, line by line.
 mod bench;
+mod calls;
 mod line;
+mod lines;
 mod octets;
+mod opening;
 
 pub use bench::Bench;
 pub use line::Line;

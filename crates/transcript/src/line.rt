@@ -6,6 +6,7 @@ use book::Kind;
 use machine::DevicePhase;
 use machine::HostPhase;
 use machine::Outcome;
+use refusal::Reason;
 use refusal::Refusal;
 use std::fmt;
 
@@ -29,11 +30,12 @@ pub enum Line {
         outcome: Outcome,
         seen: Seen,
     },
-    // A record's call was refused, at an octet of the book.
+    // A record's call was refused, for a reason that was found at an octet of the book.
     TurnedDown {
         place: usize,
         kind: Kind,
-        refusal: Refusal,
+        reason: Reason,
+        octet: u128,
     },
     // The book ended: its size in octets, and how many records it has.
     Ended { size: usize, records: usize },
@@ -101,11 +103,11 @@ pub impl fmt::Display for Line as LineDisplay {
             Line::TurnedDown {
                 place,
                 kind,
-                refusal,
+                reason,
+                octet,
             } => {
                 let word = kind.word();
-                let number = refusal.reason.number();
-                let octet = refusal.place;
+                let number = reason.number();
                 write!(f, "{place} {word} refused {number} {octet}")
             }
             Line::Ended { size, records } => write!(f, "end {size} {records}"),

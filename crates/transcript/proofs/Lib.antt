@@ -1,2 +1,3 @@
 -- The lemmas behind the contracts of this crate.
 pub mod Called
+pub mod Pressed

@@ -5,6 +5,7 @@ mod line;
 mod lines;
 mod octets;
 mod opening;
+mod replay;
 
 pub use bench::Bench;
 pub use line::Line;

@@ -3,3 +3,4 @@ pub mod Lines
 pub mod Benches
 pub mod Replays
 pub mod Standing
+pub mod Transcripts

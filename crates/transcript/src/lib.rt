@@ -6,9 +6,11 @@ mod lines;
 mod octets;
 mod opening;
 mod replay;
+mod text;
 
 pub use bench::Bench;
 pub use line::Line;
 pub use line::LineDisplay;
 pub use line::Seen;
 pub use line::SeenDisplay;
+pub use text::transcript;

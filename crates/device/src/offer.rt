@@ -9,7 +9,7 @@ ghost use Rattle.machine.specs.Frames.{composed, zeros};
 ghost use Rattle.machine.specs.declared.phase.DevicePhase.the-variants.{Run, Waiting};
 ghost use Rattle.frame.specs.Held.{framed};
 ghost use Rattle.device.specs.View.{deviceView};
-use crate::end::Device;
+use crate::Device;
 use frame::Frame;
 use frame::flag;
 use frame::has;
@@ -27,8 +27,10 @@ use refusal::Reason;
 use refusal::Refusal;
 use signature::SignatureKind;
 
-// The flags of an offer: the device has a fault, and its values are fail-safe ones.
+// The flag of an offer by which the device says that it has a fault.
 const HAS_FAULT: u8 = 1;
+
+// The flag of an offer by which the device asks for fail-safe values.
 const FAIL_SAFE: u8 = 2;
 
 // The bit by which a waiting device tells the host of the fault that it noted.

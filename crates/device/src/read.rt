@@ -7,9 +7,9 @@ ghost use Rattle.machine.specs.DeviceEnd.{deviceReadAnswer, deviceReadOctets, d
 ghost use Rattle.machine.specs.Frames.{dataOf};
 ghost use Rattle.frame.specs.Held.{framed};
 ghost use Rattle.device.specs.View.{deviceView};
-use crate::end::Device;
-use frame::control::ACTIVATE_FV;
+use crate::Device;
 use frame::Frame;
+use frame::control::ACTIVATE_FV;
 use frame::has;
 use frame::write_front;
 use machine::DevicePhase;

@@ -1,13 +1,12 @@
 // Frames handed in: how the device judges them, and what it does with them.
 ghost use mathlib.Core.Path.{_≡_};
 ghost use Rattle.signature.specs.Numbers.{numeral};
-ghost use Rattle.machine.specs.DeviceEnd.{deviceControl, deviceFits, deviceHeldAgainst, deviceJudged, deviceTakeAnswer, deviceTakeNext};
-ghost use Rattle.machine.specs.Frames.{has as hasBit};
+ghost use Rattle.machine.specs.DeviceEnd.{asksRestart, deviceFits, deviceHeldAgainst, deviceJudged, deviceTakeAnswer, deviceTakeNext, turnsToggle};
 ghost use Rattle.device.specs.View.{deviceView};
-use crate::end::Device;
+use crate::Device;
+use frame::Frame;
 use frame::control::R_CONS_NR;
 use frame::control::TOGGLE_H;
-use frame::Frame;
 use frame::has;
 use frame::octet_at;
 use machine::Cause;
@@ -28,10 +27,16 @@ impl<K: SignatureKind> Device<K> {
         fits::<K>(self.setup.crc, number, frame)
     }
 
-    fn control_has(&self, frame: &[u8], mask: u8) -> bool
-        ensures { λ r. ⌜ r ≡ hasBit (deviceControl (now (self .entry) .setup) (now (frame .entry))) mask ⌝ }
+    fn asks_restart(&self, frame: &[u8]) -> bool
+        ensures { λ r. ⌜ r ≡ asksRestart (now (self .entry) .setup) (now (frame .entry)) ⌝ }
     {
-        has(octet_at(frame, usize::from(self.setup.out_len)), mask)
+        has(octet_at(frame, usize::from(self.setup.out_len)), R_CONS_NR)
+    }
+
+    fn turns_toggle(&self, frame: &[u8]) -> bool
+        ensures { λ r. ⌜ r ≡ turnsToggle (now (self .entry) .setup) (deviceView (now (self .entry))) (now (frame .entry)) ⌝ }
+    {
+        has(octet_at(frame, usize::from(self.setup.out_len)), TOGGLE_H) != self.toggle
     }
 
     // The number that a frame is held against: 0 if it asks for a restart, the next one if its
@@ -39,9 +44,9 @@ impl<K: SignatureKind> Device<K> {
     fn held_against(&self, frame: &[u8]) -> Number
         ensures { λ r. ⌜ numeral r ≡ deviceHeldAgainst (now (self .entry) .setup) (deviceView (now (self .entry))) (now (frame .entry)) ⌝ }
     {
-        if self.control_has(frame, R_CONS_NR) {
+        if self.asks_restart(frame) {
             Number::zero()
-        } else if self.control_has(frame, TOGGLE_H) != self.toggle {
+        } else if self.turns_toggle(frame) {
             self.number.next()
         } else {
             self.number
@@ -54,9 +59,9 @@ impl<K: SignatureKind> Device<K> {
     {
         if !self.fits_number(self.held_against(frame), frame) {
             DeviceJudged::Unfit
-        } else if self.control_has(frame, R_CONS_NR) {
+        } else if self.asks_restart(frame) {
             DeviceJudged::Zero
-        } else if self.control_has(frame, TOGGLE_H) != self.toggle {
+        } else if self.turns_toggle(frame) {
             DeviceJudged::Next
         } else {
             DeviceJudged::Same

@@ -2,7 +2,7 @@
 ghost use mathlib.Core.Path.{_≡_};
 ghost use Rattle.machine.specs.DeviceEnd.{deviceTicksAnswer, deviceTicksNext};
 ghost use Rattle.device.specs.View.{deviceView};
-use crate::end::Device;
+use crate::Device;
 use machine::Cause;
 use machine::DevicePhase;
 use machine::Outcome;

@@ -6,7 +6,7 @@ use Prim.Native.Nat.{_≤_}
 use lib.ListN.{length}
 use Rattle.device.specs.View.{deviceView}
 use Rattle.device.proofs.Offers.{offer-answer, offer-next, offer-buffer}
-use Rattle.device.proofs.end.Device.offer.Needs as need
+use Rattle.device.proofs.Device.offer.Needs as need
 
 pub returns : need.returns
 returns g c =
@@ -22,5 +22,5 @@ returns g c =
       answer = offer-answer m s d values flags room _ right few (c .answer-frame .ensures) _ (c .write .ensures .answer);
       next = offer-next m s d values flags room _ right few (c .answer-frame .ensures) _ (c .write .ensures .next);
       setup = search needs;
-      buffer = offer-buffer m s d values flags room _ right few (c .answer-frame .ensures) _ _ (c .write .ensures .buffer)
+      buffer = offer-buffer m s d values flags room _ right few (c .answer-frame .ensures) _ _ (c .write .ensures .buffer);
     }

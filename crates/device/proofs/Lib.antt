@@ -1,0 +1,2 @@
+-- Lemmas that proofs of this crate cite.
+mod Offers

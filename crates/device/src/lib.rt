@@ -1,0 +1,4 @@
+// The device end.
+mod device;
+
+pub use device::Device;

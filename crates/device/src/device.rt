@@ -5,7 +5,7 @@ ghost use Prim.Native.Nat.{_≤_};
 ghost use lib.ListN.{length};
 ghost use Rattle.signature.specs.Numbers.{numeral};
 ghost use Rattle.machine.specs.Answers.{answered, readRefused, unless, written};
-ghost use Rattle.machine.specs.DeviceEnd.{causeBit, deviceAdvanced, deviceComposed, deviceFaulted, deviceFits, deviceFrame, deviceHeldAgainst, deviceJudged, deviceOfferAnswer, deviceOfferNext, deviceOfferOctets, deviceOfferSays, deviceOfferedIn, deviceReadAnswer, deviceReadOctets, deviceRestarted, deviceSafe, deviceStarted, deviceStatus, deviceTakeAnswer, deviceTakeNext, deviceTicksAnswer, deviceTicksNext, deviceUsable};
+ghost use Rattle.machine.specs.DeviceEnd.{asksRestart, causeBit, deviceAdvanced, deviceComposed, deviceFaulted, deviceFits, deviceFrame, deviceHeldAgainst, deviceJudged, deviceOfferAnswer, deviceOfferNext, deviceOfferOctets, deviceOfferSays, deviceOfferedIn, deviceReadAnswer, deviceReadOctets, deviceRestarted, deviceSafe, deviceStarted, deviceStatus, deviceTakeAnswer, deviceTakeNext, deviceTicksAnswer, deviceTicksNext, deviceUsable, turnsToggle};
 ghost use Rattle.frame.specs.Held.{framed};
 ghost use Rattle.device.specs.Start.{setupFrom};
 ghost use Rattle.device.specs.View.{deviceView};
@@ -95,20 +95,23 @@ impl<K: SignatureKind> Device<K> {
     pub fn phase(&self) -> DevicePhase
         ensures { λ r. ⌜ r ≡ deviceView (now (self .entry)) .phase ⌝ }
     {
-        self.phase
+        let Device { phase, .. } = self;
+        *phase
     }
 
     pub fn number(&self) -> Number
         ensures { λ r. ⌜ numeral r ≡ deviceView (now (self .entry)) .number ⌝ }
     {
-        self.number
+        let Device { number, .. } = self;
+        *number
     }
 
     // The fault that the device last noted, or none since its start or restart.
     pub fn cause(&self) -> Cause
         ensures { λ r. ⌜ r ≡ deviceView (now (self .entry)) .cause ⌝ }
     {
-        self.cause
+        let Device { cause, .. } = self;
+        *cause
     }
 
     // In run writes the kept answer again, else composes one, keeps it and writes it; an answer that
@@ -275,12 +278,10 @@ impl<K: SignatureKind> Device<K> {
         ensures { λ r. ⌜ r ≡ deviceJudged (K·SignatureKind .model) (now (self .entry) .setup) (deviceView (now (self .entry))) (now (frame .entry)) ⌝ }
     {
         if !self.fits_number(self.held_against(frame), frame) {
-            return DeviceJudged::Unfit;
-        }
-        let control = octet_at(frame, usize::from(self.setup.out_len));
-        if has(control, control::R_CONS_NR) {
+            DeviceJudged::Unfit
+        } else if self.asks_restart(frame) {
             DeviceJudged::Zero
-        } else if has(control, control::TOGGLE_H) != self.toggle {
+        } else if self.turns_toggle(frame) {
             DeviceJudged::Next
         } else {
             DeviceJudged::Same
@@ -291,14 +292,29 @@ impl<K: SignatureKind> Device<K> {
     fn held_against(&self, frame: &[u8]) -> Number
         ensures { λ r. ⌜ numeral r ≡ deviceHeldAgainst (now (self .entry) .setup) (deviceView (now (self .entry))) (now (frame .entry)) ⌝ }
     {
-        let control = octet_at(frame, usize::from(self.setup.out_len));
-        if has(control, control::R_CONS_NR) {
+        if self.asks_restart(frame) {
             Number::zero()
-        } else if has(control, control::TOGGLE_H) != self.toggle {
+        } else if self.turns_toggle(frame) {
             self.number.next()
         } else {
             self.number
         }
+    }
+
+    // Whether a frame is a restart frame.
+    fn asks_restart(&self, frame: &[u8]) -> bool
+        ensures { λ r. ⌜ r ≡ asksRestart (now (self .entry) .setup) (now (frame .entry)) ⌝ }
+    {
+        let control = octet_at(frame, usize::from(self.setup.out_len));
+        has(control, control::R_CONS_NR)
+    }
+
+    // Whether a frame's toggle differs from the device's.
+    fn turns_toggle(&self, frame: &[u8]) -> bool
+        ensures { λ r. ⌜ r ≡ turnsToggle (now (self .entry) .setup) (deviceView (now (self .entry))) (now (frame .entry)) ⌝ }
+    {
+        let control = octet_at(frame, usize::from(self.setup.out_len));
+        has(control, control::TOGGLE_H) != self.toggle
     }
 
     // Whether a host frame fits a number.

@@ -1,26 +1,13 @@
--- What is cut from the front of a list, what is written there, and what is added at an end.
+-- What is cut from the front of a list, and what is added at its end.
 use mathlib.Core.Path.{_≡_, sym, ap, _∙_}
 use mathlib.Core.Logic.{inl, inr}
 use mathlib.Core.List.{List, _++_}
 use Prim.Native.Nat.{ℕ, min, _+_, _-_, _≤_}
 use native.Mathlib.Omega.{arith}
-use lib.ListN.{length, take, drop}
+use lib.ListN.{length, take}
 use lib.Seq.{take-append-add}
-use Rattle.std.proofs.shelf.Lists.{take-all, drop-all, length-take-le, length-append}
+use Rattle.std.proofs.shelf.Lists.{take-all}
 use Rattle.std.proofs.shelf.Tests.{cases-lt}
-
--- octets that are cut to the room of a buffer and written to its front
-pub front-written : (octets buffer front : List ℕ) (k : ℕ) → front ≡ take (length buffer) octets → k ≡ length front
-    → front ++ drop k buffer ≡ take (length buffer) octets ++ drop (length octets) buffer
-front-written octets buffer front k cut same =
-    let rest : drop k buffer ≡ drop (length octets) buffer =
-    elim (cases-lt (length buffer) (length octets)) [
-      | inl h ↦ let long = length-take-le (length buffer) octets (omega arith) in
-          let all : length front ≡ length buffer = ap length cut ∙ long in
-          drop-all k buffer (omega arith) ∙ sym (drop-all (length octets) buffer (omega arith))
-      | inr h ↦ ap (λ (n : ℕ). drop n buffer) (same ∙ ap length (cut ∙ take-all (length buffer) octets h))
-    ] in
-    ap (λ (xs : List ℕ). xs ++ drop k buffer) cut ∙ ap (λ (xs : List ℕ). take (length buffer) octets ++ xs) rest
 
 -- a front of xs is cut no shorter than xs is
 pub cut-twice : (n room : ℕ) (xs : List ℕ) → length xs ≡ room → take (min n room) xs ≡ take n xs

@@ -1,5 +1,6 @@
 // The operator's button and its presses.
 ghost use mathlib.Core.Path.{_≡_};
+ghost use Rattle.std.specs.Options.{isSome};
 ghost use Rattle.machine.specs.Button.{buttonNext, buttonReads, buttonStarted};
 ghost use Rattle.host.specs.Presses.{aPress};
 use refusal::Reason;
@@ -19,9 +20,14 @@ pub struct Button {
 }
 
 impl Press {
-    // Uses the press up.
-    pub(crate) fn spend(self) {
-        let Press { made: _ } = self;
+    // Uses a press up, and says whether there was one.
+    pub(crate) fn spend(press: Option<Press>) -> bool
+        ensures { λ r. ⌜ r ≡ isSome press ⌝ }
+    {
+        match press {
+            Some(Press { made: _ }) => true,
+            None => false,
+        }
     }
 }
 

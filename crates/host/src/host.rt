@@ -94,20 +94,23 @@ impl<K: SignatureKind> Host<K> {
     pub fn phase(&self) -> HostPhase
         ensures { λ r. ⌜ r ≡ hostView (now (self .entry)) .phase ⌝ }
     {
-        self.phase
+        let Host { phase, .. } = self;
+        *phase
     }
 
     pub fn number(&self) -> Number
         ensures { λ r. ⌜ numeral r ≡ hostView (now (self .entry)) .number ⌝ }
     {
-        self.number
+        let Host { number, .. } = self;
+        *number
     }
 
     // Why the host last restarted.
     pub fn cause(&self) -> Cause
         ensures { λ r. ⌜ r ≡ hostView (now (self .entry)) .cause ⌝ }
     {
-        self.cause
+        let Host { cause, .. } = self;
+        *cause
     }
 
     pub fn setup(&self) -> Setup
@@ -324,10 +327,9 @@ impl<K: SignatureKind> Host<K> {
         ensures next { λ _. ⌜ hostView (now (self .exit)) ≡ hostPressNext (hostView (now (self .entry))) (isSome press) ⌝ }
         ensures setup { λ _. ⌜ now (self .exit) .setup ≡ now (self .entry) .setup ⌝ }
     {
-        let Some(given) = press else {
+        if !Press::spend(press) {
             return Ok(Outcome::Quiet);
-        };
-        given.spend();
+        }
         match (self.phase, self.answer) {
             (HostPhase::Run, Some(_)) if self.stop => {
                 self.stop = false;

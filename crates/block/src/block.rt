@@ -1,5 +1,5 @@
 // The parameter block, as it came and checked. Only a checked block starts an end.
-ghost use Prim.Native.Nat.{_<_};
+ghost use Prim.Native.Nat.{_^_, _<_};
 use crate::setup::Setup;
 use signature::SignatureKind;
 use std::marker::PhantomData;
@@ -16,6 +16,7 @@ pub struct CheckedBlock<K: SignatureKind> {
     setup: Setup,
     kind: PhantomData<K>,
     ghost watched: { 0 < setup .watch },
+    ghost small: { setup .crc < 2 ^ 16 },
 }
 
 mod check;

@@ -6,7 +6,13 @@ use lib.Dec.{eqb}
 use Rattle.std.specs.shelf.Text.{sameBytes}
 use Rattle.signature.specs.Kind.{signature, fitsNumber}
 use Rattle.kinds.specs.Kinds.{s3, s4, c3}
+use Rattle.block.specs.declared.setup.Setup.{Setup}
 use Rattle.block.specs.ParCrc.{parCrc}
+use Rattle.machine.specs.declared.outcome.Outcome.the-variants.{Fault, Quiet}
+use Rattle.machine.specs.declared.phase.Cause.the-variants.{Start}
+use Rattle.machine.specs.Answers.{answers}
+use Rattle.machine.specs.HostEnd.{hostOpened, hostStarted, hostTicksAnswer}
+use Rattle.machine.specs.DeviceEnd.{deviceRestarted, deviceTicksAnswer}
 
 -- entries of the tables: what an octet makes of the register 0
 unfoldable pub entriesKnown : Bool
@@ -24,5 +30,16 @@ restartKnown =
     eqb (parCrc (0x08 ∷ 0x40 ∷ 0x00 ∷ 0x01 ∷ 0x00 ∷ 0x02 ∷ 0x00 ∷ 0x64 ∷ [])) 0xC357
     && (fitsNumber s3 0xC357 0 (0x14 ∷ 0xBE ∷ 0xA3 ∷ 0x1F ∷ []) && fitsNumber s3 0xC357 0 (0x50 ∷ 0xA1 ∷ 0x0C ∷ 0x1E ∷ []))
 
+-- Ends in run that have counted no ticks, under a block with a watch time of 100 and no data: 99 ticks are quiet, 100
+-- are a fault, at both.
+abbrev pub watched : Setup
+watched = record { crc = 0xC357; watch = 100; «out_len» = 0; «in_len» = 0 }
+
+unfoldable pub ticksKnown : Bool
+ticksKnown =
+    answers (hostTicksAnswer watched (hostOpened (hostStarted Start)) 99) Quiet
+    && (answers (hostTicksAnswer watched (hostOpened (hostStarted Start)) 100) Fault
+    && (answers (deviceTicksAnswer watched deviceRestarted 99) Quiet && answers (deviceTicksAnswer watched deviceRestarted 100) Fault))
+
 abbrev pub known : Bool
-known = entriesKnown && (signaturesKnown && restartKnown)
+known = entriesKnown && (signaturesKnown && (restartKnown && ticksKnown))

@@ -3,4 +3,4 @@ mod Values
 mod Bursts
 mod Steps
 mod Agreed
-mod Lawful
+pub mod Lawful

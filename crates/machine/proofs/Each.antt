@@ -1,11 +1,10 @@
 -- Every call but a frame handed in keeps the invariant.
-use mathlib.Core.Path.{_≡_, refl, sym, ap, subst, _∙_}
+use mathlib.Core.Path.{_≡_, refl, ap, subst, _∙_}
 use mathlib.Core.Bool.{Bool, true, false, cond, _&&_}
 use mathlib.Core.List.{List, [], _∷_}
-use mathlib.Core.Logic.{_⊎_, inl, inr}
-use Prim.Native.Nat.{ℕ, _+_, _<_, _≤_}
+use mathlib.Core.Logic.{inl, inr}
+use Prim.Native.Nat.{ℕ, _+_, _≤_}
 use native.Mathlib.Omega.{arith}
-use lib.Dec.{eqb, leb}
 use lib.ListN.{length}
 use Rattle.std.specs.Options.{isSome}
 use Rattle.std.specs.declared.option.Option.{Option}
@@ -27,11 +26,11 @@ use Rattle.machine.specs.Answers.{Answer, answers, answered, unless, readRefus
 use Rattle.machine.specs.HostEnd.{HostState, hostStarted, hostRuns, hostComposed, hostFrameFrom, hostFrame, hostOfferRefused, hostOfferSays, hostKeeping, hostOfferAnswer, hostOfferNext, hostOfferOctets, hostCounted, hostTicksSays, hostTickedIn, hostTicksAnswer, hostTicksNext, pressAwaited, hostReleased, hostPressAnswer, hostPressNext, hostValues, hostReadAnswer, hostReadOctets}
 use Rattle.machine.specs.DeviceEnd.{DeviceState, deviceFaulted, deviceRuns, deviceComposed, deviceFrameFrom, deviceFrame, deviceOfferRefused, deviceOfferSays, deviceOfferedIn, deviceKeeping, deviceOfferAnswer, deviceOfferNext, deviceOfferOctets, deviceCounted, deviceTicksSays, deviceTickedIn, deviceTicksAnswer, deviceTicksNext, deviceValues, deviceReadAnswer, deviceReadOctets}
 use Rattle.machine.specs.Lines.{Entry, offered, hostChanged}
-use Rattle.machine.specs.Calls.{Call, hostOffer, deviceOffer, hostTicks, deviceTicks, button, press, hostRead, deviceRead, Event, event}
-use Rattle.machine.specs.Events.{host, device, ticksOf, offersHost, offersDevice, TakesPress}
+use Rattle.machine.specs.Calls.{hostOffer, deviceOffer, hostTicks, deviceTicks, button, press, hostRead, deviceRead, Event, event}
+use Rattle.machine.specs.Events.{host, device, ticksOf, offersHost, offersDevice}
 use Rattle.machine.specs.Statement.{Checked}
-use Rattle.machine.proofs.Cases.{by-bool, by-option, by-host-phase, by-device-phase, none-some, passed}
-use Rattle.machine.proofs.Traces.{Carried, carried-here, faulty, Pressed, now}
+use Rattle.machine.proofs.Cases.{by-bool, by-option, by-host-phase, by-device-phase, passed}
+use Rattle.machine.proofs.Traces.{Carried, carried-here, faulty, now}
 use Rattle.machine.proofs.Invariant.{hostFV, deviceFV, confirms, hostDataOf, deviceDataOf, DeviceFrame, Inv}
 use Rattle.machine.proofs.Steps.{hostWith, deviceWith, pass, host-faults, device-faults, keeps, writes, keeps-answer, writes-answer, clears}
 use Rattle.machine.proofs.Composing.{host-made, device-made}

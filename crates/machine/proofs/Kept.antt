@@ -1,6 +1,6 @@
 -- A kept frame was composed by an offer in the list of calls, under the number that its end still has.
 use mathlib.Core.Path.{_≡_, refl, sym, ap, subst, _∙_}
-use mathlib.Core.Bool.{Bool, true, false, cond}
+use mathlib.Core.Bool.{Bool, cond}
 use mathlib.Core.List.{List, [], _∷_}
 use mathlib.Core.Logic.{_⊎_, inl, inr, ⊎-elim}
 use Prim.Native.Nat.{ℕ, _+_}
@@ -9,10 +9,8 @@ use Rattle.std.specs.Options.{isSome}
 use Rattle.std.specs.declared.option.Option.{Option}
 use Rattle.std.specs.declared.option.Option.the-variants.{Some, None}
 use Rattle.std.specs.declared.result.Result.the-variants.{Ok}
-use Rattle.std.proofs.shelf.Tests.{true≢false, false≢true}
 use Rattle.refusal.specs.declared.reason.Reason.{Reason}
 use Rattle.signature.specs.Kind.{Model}
-use Rattle.machine.specs.declared.outcome.Outcome.{Outcome}
 use Rattle.machine.specs.declared.outcome.Outcome.the-variants.{Fresh, Repeat, Waiting}
 use Rattle.machine.specs.declared.phase.HostPhase.{HostPhase}
 use Rattle.machine.specs.declared.phase.DevicePhase.{DevicePhase}
@@ -21,13 +19,13 @@ use Rattle.machine.specs.declared.judged.HostJudged.{HostJudged}
 use Rattle.machine.specs.declared.judged.DeviceJudged.{DeviceJudged}
 use Rattle.block.specs.declared.setup.Setup.{Setup}
 use Rattle.machine.specs.Watch.{expired}
-use Rattle.machine.specs.Answers.{Answer, answered, unless}
-use Rattle.machine.specs.HostEnd.{HostState, hostStarted, hostFrameFrom, hostFrame, hostOfferRefused, hostOfferSays, hostKeeping, hostJudged, hostTakenIn, hostTakeRefused, hostTakeNext, hostCounted, hostTickedIn, hostTicksNext, pressAwaited, hostReleased, hostPressNext}
-use Rattle.machine.specs.DeviceEnd.{DeviceState, deviceFaulted, deviceRestarted, deviceRuns, deviceFrameFrom, deviceFrame, deviceOfferRefused, deviceOfferSays, deviceOfferedIn, deviceKeeping, deviceJudged, deviceTakenIn, deviceTakeRefused, deviceTakeNext, deviceCounted, deviceTickedIn, deviceTicksNext}
+use Rattle.machine.specs.Answers.{answered, unless}
+use Rattle.machine.specs.HostEnd.{HostState, hostStarted, hostFrameFrom, hostFrame, hostOfferRefused, hostOfferSays, hostKeeping, hostJudged, hostTakenIn, hostTakeRefused, hostTakeNext, hostCounted, hostTickedIn, pressAwaited, hostReleased, hostPressNext}
+use Rattle.machine.specs.DeviceEnd.{DeviceState, deviceFaulted, deviceRestarted, deviceFrameFrom, deviceFrame, deviceOfferRefused, deviceOfferSays, deviceOfferedIn, deviceJudged, deviceTakenIn, deviceTakeRefused, deviceTakeNext, deviceCounted, deviceTickedIn}
 use Rattle.machine.specs.Calls.{Call, hostOffer, toDevice, deviceOffer, toHost, hostTicks, deviceTicks, button, press, hostRead, deviceRead, after}
 use Rattle.machine.specs.Events.{End, host, device, offersHost, offersDevice}
 use Rattle.machine.specs.Statement.{ComposedUnder}
-use Rattle.machine.proofs.Cases.{by-bool, by-option, by-device-phase, none-some, some-same}
+use Rattle.machine.proofs.Cases.{by-bool, by-option, none-some, some-same}
 
 -- a call after which the end keeps no new frame
 abbrev HostKeeps : HostState → HostState → Type 0

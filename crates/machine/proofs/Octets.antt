@@ -1,6 +1,6 @@
 -- What a composed frame is, octet by octet: it fits its number and no other, and gives its octet and its data back.
-use mathlib.Core.Path.{_≡_, refl, ap, _∙_}
-use mathlib.Core.Bool.{Bool, true, false, cond, _&&_, Bool·beq}
+use mathlib.Core.Path.{_≡_, refl}
+use mathlib.Core.Bool.{Bool, true, false, _&&_, Bool·beq}
 use mathlib.Core.List.{List, [], _∷_, _++_, append-assoc}
 use Prim.Native.Nat.{ℕ, zero, suc, _^_, _<_}
 use lib.Bits.{bitOr}
@@ -8,7 +8,7 @@ use lib.Dec.{ltb, lit<}
 use lib.ListN.{length, length-replicate}
 use lib.Seq.{take-at, getD-at}
 use Rattle.std.proofs.shelf.Elements.{all-append, all-push}
-use Rattle.std.proofs.shelf.Tests.{true≢false, false≢true, and-parts, ltb-true}
+use Rattle.std.proofs.shelf.Tests.{false≢true, and-parts, ltb-true}
 use Rattle.signature.specs.Kind.{Model, signature, fitsNumber}
 use Rattle.signature.specs.Laws.{Laws, Octets}
 use Rattle.signature.proofs.Given.{signed-fits, signature-octets, one-number}

@@ -1,14 +1,14 @@
 -- The invariant holds after every list of calls, and gives the safety statement.
 use mathlib.Core.Path.{_≡_, refl, sym, ap, subst, _∙_}
-use mathlib.Core.Bool.{Bool, true, false, cond, not, _&&_}
+use mathlib.Core.Bool.{Bool, true, false, cond, not}
 use mathlib.Core.List.{List, [], _∷_, _++_}
-use mathlib.Core.Logic.{_⊎_, inl, inr}
+use mathlib.Core.Logic.{inl, inr}
 use Prim.Native.Nat.{ℕ, _+_, _*_, _<_}
 use native.Mathlib.Omega.{arith}
 use Rattle.std.specs.declared.option.Option.{Option}
 use Rattle.std.specs.declared.option.Option.the-variants.{Some, None}
 use Rattle.std.specs.declared.result.Result.the-variants.{Ok, Err}
-use Rattle.std.proofs.shelf.Tests.{true≢false, false≢true, both-ways, cases-bool, and-parts, not-true}
+use Rattle.std.proofs.shelf.Tests.{true≢false, false≢true, cases-bool, and-parts, not-true}
 use Rattle.refusal.specs.declared.reason.Reason.{Reason}
 use Rattle.refusal.specs.declared.refused.Refusal.{Refusal}
 use Rattle.signature.specs.Kind.{Model, fitsNumber}
@@ -25,11 +25,11 @@ use Rattle.machine.specs.DeviceEnd.{DeviceState, deviceRuns, deviceComposed, d
 use Rattle.machine.specs.Calls.{Call, hostOffer, toDevice, deviceOffer, toHost, hostTicks, deviceTicks, button, press, hostRead, deviceRead, Event, event, Pair, blank, happens, after, history, Admissible}
 use Rattle.machine.specs.Button.{buttonRefused, buttonAnswer, yieldsPress}
 use Rattle.machine.specs.Events.{End, host, device, Reads, readsHost, readsDevice, Offers, offersHost, offersDevice, FreshOffer}
-use Rattle.machine.specs.Statement.{Checked, readLength, HandsOut, processValues, failSafeValues, nothing, Acknowledged, ComposedUnder, Safe, Statement}
+use Rattle.machine.specs.Statement.{Checked, readLength, HandsOut, processValues, failSafeValues, nothing, Acknowledged, ComposedUnder, Statement}
 use Rattle.machine.proofs.Numbers.{num-zero}
-use Rattle.machine.proofs.Cases.{by-option, none-some, some-same}
+use Rattle.machine.proofs.Cases.{none-some, some-same}
 use Rattle.machine.proofs.Octets.{composed-fits}
-use Rattle.machine.proofs.Traces.{Carried, carried-more, Pressed, press-taken, press-since}
+use Rattle.machine.proofs.Traces.{Carried, Pressed, press-taken, press-since}
 use Rattle.machine.proofs.Invariant.{hostFV, deviceFV, hostDataOf, deviceDataOf, Inv}
 use Rattle.machine.proofs.Each.{host-offers, device-offers, host-ticks, device-ticks, presses, buttons, host-reads, device-reads}
 use Rattle.machine.proofs.Takes.{to-host, to-device}

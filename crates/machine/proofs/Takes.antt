@@ -1,9 +1,9 @@
 -- A frame handed to an end keeps the invariant.
 use mathlib.Core.Path.{_≡_, refl, sym, ap, subst, _∙_}
-use mathlib.Core.Bool.{Bool, true, false, cond, not, _&&_, _||_}
+use mathlib.Core.Bool.{Bool, true, false, cond, not, _&&_}
 use mathlib.Core.List.{List, [], _∷_}
 use mathlib.Core.Logic.{_⊎_, inl, inr}
-use Prim.Native.Nat.{ℕ, _+_, _^_, _<_, _≤_}
+use Prim.Native.Nat.{ℕ, _+_}
 use native.Mathlib.Omega.{arith}
 use lib.Dec.{eqb, lit<}
 use Rattle.std.specs.Options.{isSome}
@@ -12,12 +12,11 @@ use Rattle.std.specs.declared.option.Option.the-variants.{Some, None}
 use Rattle.std.specs.declared.result.Result.the-variants.{Ok}
 use Rattle.std.specs.shelf.Lists.{All}
 use Rattle.std.proofs.shelf.Elements.{all-weaker}
-use Rattle.std.proofs.shelf.Tests.{true≢false, false≢true, both-ways, cases-bool, cond-true, cond-false, and-parts, and-cases, not-true, not-false}
+use Rattle.std.proofs.shelf.Tests.{false≢true, both-ways, cases-bool, cond-true, cond-false, and-parts, and-cases, not-false}
 use Rattle.refusal.specs.declared.reason.Reason.{Reason}
 use Rattle.signature.specs.Kind.{Model, fitsNumber}
-use Rattle.signature.specs.Laws.{Laws}
 use Rattle.machine.specs.declared.outcome.Outcome.{Outcome}
-use Rattle.machine.specs.declared.outcome.Outcome.the-variants.{Fresh, Repeat, Ignored, Fault, Restart}
+use Rattle.machine.specs.declared.outcome.Outcome.the-variants.{Fresh, Repeat, Ignored, Restart}
 use Rattle.machine.specs.declared.phase.HostPhase.{HostPhase}
 use Rattle.machine.specs.declared.phase.DevicePhase.{DevicePhase}
 use Rattle.machine.specs.declared.phase.Cause.the-variants.{Signature, Told}
@@ -25,9 +24,9 @@ use Rattle.machine.specs.declared.judged.HostJudged.{HostJudged}
 use Rattle.machine.specs.declared.judged.DeviceJudged.{DeviceJudged}
 use Rattle.block.specs.declared.setup.Setup.{Setup}
 use Rattle.signature.specs.Numbers.{following}
-use Rattle.machine.specs.Frames.{Toggle-d, cons-nr-R, has}
-use Rattle.machine.specs.Answers.{Answer, refused, answers, answered, unless}
-use Rattle.machine.specs.HostEnd.{HostState, hostRuns, hostFits, hostStatus, tellsFault, opens, answersKept, answersPrevious, sameToggle, hostJudgedIn, hostJudged, hostOpened, hostAdvanced, hostTakenIn, hostTakeSays, hostTakeRefused, hostTakeAnswer, hostTakeNext, hostHeldIn, hostHeldAgainst}
+use Rattle.machine.specs.Frames.{cons-nr-R, has}
+use Rattle.machine.specs.Answers.{refused, answers, answered, unless}
+use Rattle.machine.specs.HostEnd.{HostState, hostRuns, hostFits, hostStatus, tellsFault, opens, answersKept, answersPrevious, hostJudgedIn, hostJudged, hostOpened, hostAdvanced, hostTakenIn, hostTakeSays, hostTakeRefused, hostTakeAnswer, hostTakeNext, hostHeldIn, hostHeldAgainst}
 use Rattle.machine.specs.DeviceEnd.{DeviceState, deviceRestarted, deviceRuns, deviceFits, asksRestart, turnsToggle, deviceHeldAgainst, deviceJudged, deviceAdvanced, deviceTakenIn, deviceTakeSays, deviceTakeRefused, deviceTakeAnswer, deviceTakeNext}
 use Rattle.machine.specs.Lines.{Entry, On, withoutRestarts, numbered, hostChanged, handedOver, deviceChanged}
 use Rattle.machine.specs.Calls.{toDevice, toHost, Event, event}

@@ -1,5 +1,5 @@
 -- What stays true as one more event happens: an offer's age, and whether a press was taken since the last fault.
-use mathlib.Core.Path.{_≡_, refl, sym, ap, _∙_, subst}
+use mathlib.Core.Path.{_≡_, refl, sym, ap, subst}
 use mathlib.Core.Bool.{Bool, true, false, _&&_}
 use mathlib.Core.List.{List, [], _∷_, _++_}
 use Prim.Native.Nat.{ℕ, _+_, _<_, _≤_}
@@ -8,9 +8,9 @@ use Rattle.std.specs.declared.option.Option.{Option}
 use Rattle.std.specs.declared.option.Option.the-variants.{Some, None}
 use Rattle.std.specs.declared.result.Result.the-variants.{Ok}
 use Rattle.std.proofs.shelf.Tests.{both-ways}
-use Rattle.machine.specs.declared.outcome.Outcome.the-variants.{Fresh, Fault, Taken}
-use Rattle.machine.specs.Answers.{Answer, answers}
-use Rattle.machine.specs.Calls.{Call, Event}
+use Rattle.machine.specs.declared.outcome.Outcome.the-variants.{Fresh, Fault}
+use Rattle.machine.specs.Answers.{answers}
+use Rattle.machine.specs.Calls.{Event}
 use Rattle.machine.specs.Events.{End, host, device, other, callee, ticksOf, ticksGiven, Offers, Faults, TakesPress, PressTaken}
 
 -- among these events is a fresh offer of the values at the other end, with fewer than n ticks given to the reader since

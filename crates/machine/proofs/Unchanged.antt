@@ -1,6 +1,6 @@
 -- A refused call changes nothing.
 use mathlib.Core.Path.{_≡_, refl}
-use mathlib.Core.Bool.{Bool, true, false, cond}
+use mathlib.Core.Bool.{Bool, true, cond}
 use mathlib.Core.List.{List, []}
 use Prim.Native.Nat.{ℕ}
 use lib.Dec.{eqb}
@@ -13,15 +13,14 @@ use Rattle.refusal.specs.declared.reason.Reason.the-variants.{NoPressAwaited}
 use Rattle.refusal.specs.Refusals.{refusalAt}
 use Rattle.machine.specs.declared.outcome.Outcome.{Outcome}
 use Rattle.machine.specs.declared.outcome.Outcome.the-variants.{Taken, Quiet}
-use Rattle.machine.specs.declared.phase.HostPhase.{HostPhase}
 use Rattle.machine.specs.Answers.{refused, answered, unless, readRefused, readSays, readValues}
-use Rattle.machine.specs.HostEnd.{HostState, hostFrame, hostOfferRefused, hostOfferSays, hostKeeping, hostJudged, hostTakenIn, hostTakeSays, hostTakeRefused, pressAwaited, hostReleased, hostValues}
-use Rattle.machine.specs.DeviceEnd.{DeviceState, deviceFrame, deviceOfferRefused, deviceOfferSays, deviceOfferedIn, deviceJudged, deviceTakenIn, deviceTakeSays, deviceTakeRefused, deviceValues}
+use Rattle.machine.specs.HostEnd.{hostFrame, hostOfferRefused, hostOfferSays, hostKeeping, hostJudged, hostTakenIn, hostTakeSays, hostTakeRefused, pressAwaited, hostReleased, hostValues}
+use Rattle.machine.specs.DeviceEnd.{deviceFrame, deviceOfferRefused, deviceOfferSays, deviceOfferedIn, deviceJudged, deviceTakenIn, deviceTakeSays, deviceTakeRefused, deviceValues}
 use Rattle.machine.specs.Button.{buttonRefused}
 use Rattle.machine.specs.Lines.{offered, hostChanged, handedOver, deviceChanged}
-use Rattle.machine.specs.Calls.{Call, hostOffer, toDevice, deviceOffer, toHost, hostTicks, deviceTicks, button, press, hostRead, deviceRead, Pair, withHost, withDevice, withButton}
+use Rattle.machine.specs.Calls.{hostOffer, toDevice, deviceOffer, toHost, hostTicks, deviceTicks, button, press, hostRead, deviceRead, withHost, withDevice, withButton}
 use Rattle.machine.specs.Refused.{RefusedChangesNothing}
-use Rattle.machine.proofs.Cases.{by-bool, by-option}
+use Rattle.machine.proofs.Cases.{by-bool}
 
 -- by the reason to refuse: what holds of every refusal holds wherever a call is refused
 by-refusal : (P : Option Reason → Type 0) (o : Outcome) (r : Option Reason) → refused (answered r o) ≡ true → ((e : Reason) → P (Some e)) → P r

@@ -53,13 +53,22 @@ event c a octets = record { call = c; answer = a; pressed = false; octets = octe
 
 -- what a call on a pair answers and writes
 abbrev pub happens : Model → Setup → Pair → Call → Event
-happens m s p (hostOffer values wish room) = event (hostOffer values wish room) (hostOfferAnswer m s (p .host) values wish room) (hostOfferOctets m s (p .host) values wish room)
+happens m s p (hostOffer values wish room) =
+    event (hostOffer values wish room) (hostOfferAnswer m s (p .host) values wish room)
+    (hostOfferOctets m s (p .host) values wish room)
 happens m s p (toDevice f) = event (toDevice f) (deviceTakeAnswer m s (p .device) f) []
-happens m s p (deviceOffer values flags room) = event (deviceOffer values flags room) (deviceOfferAnswer m s (p .device) values flags room) (deviceOfferOctets m s (p .device) values flags room)
+happens m s p (deviceOffer values flags room) =
+    event (deviceOffer values flags room) (deviceOfferAnswer m s (p .device) values flags room)
+    (deviceOfferOctets m s (p .device) values flags room)
 happens m s p (toHost f) = event (toHost f) (hostTakeAnswer m s (p .host) f) []
 happens m s p (hostTicks n) = event (hostTicks n) (hostTicksAnswer s (p .host) n) []
 happens m s p (deviceTicks n) = event (deviceTicks n) (deviceTicksAnswer s (p .device) n) []
-happens m s p (button reading) = record { call = button reading; answer = buttonAnswer reading; pressed = unless (buttonRefused reading) false (yieldsPress (p .held) reading); octets = [] }
+happens m s p (button reading) = record {
+  call = button reading;
+  answer = buttonAnswer reading;
+  pressed = unless (buttonRefused reading) false (yieldsPress (p .held) reading);
+  octets = [];
+}
 happens m s p (press given) = event (press given) (hostPressAnswer (p .host) given) []
 happens m s p (hostRead room) = event (hostRead room) (hostReadAnswer s (p .host) room) (hostReadOctets s (p .host) room)
 happens m s p (deviceRead room) = event (deviceRead room) (deviceReadAnswer s (p .device) room) (deviceReadOctets s (p .device) room)
@@ -75,11 +84,22 @@ abbrev pub withButton : Pair → Bool → Pair
 withButton p held = record { host = p .host; device = p .device; held = held; outward = p .outward; inward = p .inward }
 
 abbrev pub step : Model → Setup → Pair → Call → Pair
-step m s p (hostOffer values wish room) = withHost p (hostOfferNext m s (p .host) values wish room) (offered (hostOfferAnswer m s (p .host) values wish room) (hostOfferOctets m s (p .host) values wish room) (p .host .number) (p .outward)) (p .inward)
-step m s p (toDevice f) = withDevice p (deviceTakeNext m s (p .device) f) (handedOver (deviceTakeAnswer m s (p .device) f) f (p .outward)) (deviceChanged (deviceTakeAnswer m s (p .device) f) (p .inward))
-step m s p (deviceOffer values flags room) = withDevice p (deviceOfferNext m s (p .device) values flags room) (p .outward) (offered (deviceOfferAnswer m s (p .device) values flags room) (deviceOfferOctets m s (p .device) values flags room) (p .device .number) (p .inward))
-step m s p (toHost f) = withHost p (hostTakeNext m s (p .host) f) (hostChanged (hostTakeAnswer m s (p .host) f) (p .outward)) (hostChanged (hostTakeAnswer m s (p .host) f) (p .inward))
-step m s p (hostTicks n) = withHost p (hostTicksNext s (p .host) n) (hostChanged (hostTicksAnswer s (p .host) n) (p .outward)) (hostChanged (hostTicksAnswer s (p .host) n) (p .inward))
+step m s p (hostOffer values wish room) =
+    withHost p (hostOfferNext m s (p .host) values wish room)
+    (offered (hostOfferAnswer m s (p .host) values wish room) (hostOfferOctets m s (p .host) values wish room) (p .host .number) (p .outward))
+    (p .inward)
+step m s p (toDevice f) =
+    withDevice p (deviceTakeNext m s (p .device) f) (handedOver (deviceTakeAnswer m s (p .device) f) f (p .outward))
+    (deviceChanged (deviceTakeAnswer m s (p .device) f) (p .inward))
+step m s p (deviceOffer values flags room) =
+    withDevice p (deviceOfferNext m s (p .device) values flags room) (p .outward)
+    (offered (deviceOfferAnswer m s (p .device) values flags room) (deviceOfferOctets m s (p .device) values flags room) (p .device .number) (p .inward))
+step m s p (toHost f) =
+    withHost p (hostTakeNext m s (p .host) f) (hostChanged (hostTakeAnswer m s (p .host) f) (p .outward))
+    (hostChanged (hostTakeAnswer m s (p .host) f) (p .inward))
+step m s p (hostTicks n) =
+    withHost p (hostTicksNext s (p .host) n) (hostChanged (hostTicksAnswer s (p .host) n) (p .outward))
+    (hostChanged (hostTicksAnswer s (p .host) n) (p .inward))
 step m s p (deviceTicks n) = withDevice p (deviceTicksNext s (p .device) n) (p .outward) (p .inward)
 step m s p (button reading) = withButton p (buttonNext (p .held) reading)
 step m s p (press given) = withHost p (hostPressNext (p .host) given) (p .outward) (p .inward)

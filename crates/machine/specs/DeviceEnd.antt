@@ -37,15 +37,18 @@ pub record DeviceState : Type 0 where
 
 -- a device that starts: it waits for a restart frame
 abbrev pub deviceStarted : DeviceState
-deviceStarted = record { phase = Waiting; number = 0; toggle = false; ticks = 0; kept = None; frame = None; cause = Start }
+deviceStarted =
+    record { phase = Waiting; number = 0; toggle = false; ticks = 0; kept = None; frame = None; cause = Start }
 
 -- a device that has taken a restart frame
 abbrev pub deviceRestarted : DeviceState
-deviceRestarted = record { phase = Run; number = 0; toggle = false; ticks = 0; kept = None; frame = None; cause = Start }
+deviceRestarted =
+    record { phase = Run; number = 0; toggle = false; ticks = 0; kept = None; frame = None; cause = Start }
 
 -- a device that notes a fault: number, toggle and ticks stay
 abbrev pub deviceFaulted : DeviceState → Cause → DeviceState
-deviceFaulted d cause = record { phase = Waiting; number = d .number; toggle = d .toggle; ticks = d .ticks; kept = None; frame = None; cause = cause }
+deviceFaulted d cause =
+    record { phase = Waiting; number = d .number; toggle = d .toggle; ticks = d .ticks; kept = None; frame = None; cause = cause }
 
 abbrev pub deviceRuns : DevicePhase → Bool
 deviceRuns Waiting = false
@@ -108,7 +111,8 @@ deviceOfferSays Waiting d = Outcome.Waiting
 deviceOfferSays Run d = cond (isSome (d .kept)) Outcome.Repeat Outcome.Fresh
 
 abbrev pub deviceKeeping : DeviceState → List ℕ → DeviceState
-deviceKeeping d f = record { phase = d .phase; number = d .number; toggle = d .toggle; ticks = d .ticks; kept = Some f; frame = d .frame; cause = d .cause }
+deviceKeeping d f =
+    record { phase = d .phase; number = d .number; toggle = d .toggle; ticks = d .ticks; kept = Some f; frame = d .frame; cause = d .cause }
 
 abbrev pub deviceOfferedIn : DevicePhase → DeviceState → List ℕ → DeviceState
 deviceOfferedIn Waiting d f = d
@@ -149,7 +153,8 @@ deviceJudged m s d f =
 
 -- the frame is taken, and its number and toggle hold
 abbrev pub deviceAdvanced : DeviceState → List ℕ → DeviceState
-deviceAdvanced d f = record { phase = d .phase; number = following (d .number); toggle = not (d .toggle); ticks = 0; kept = None; frame = Some f; cause = d .cause }
+deviceAdvanced d f =
+    record { phase = d .phase; number = following (d .number); toggle = not (d .toggle); ticks = 0; kept = None; frame = Some f; cause = d .cause }
 
 abbrev pub deviceTakenIn : DevicePhase → DeviceJudged → DeviceState → List ℕ → DeviceState
 deviceTakenIn Waiting DeviceJudged.Unfit d f = d
@@ -183,7 +188,8 @@ deviceTakeNext m s d f = unless (deviceTakeRefused m s f) d (deviceTakenIn (d .p
 -- Ticks: they count in run.
 
 abbrev pub deviceCounted : DeviceState → ℕ → DeviceState
-deviceCounted d n = record { phase = d .phase; number = d .number; toggle = d .toggle; ticks = d .ticks + n; kept = d .kept; frame = d .frame; cause = d .cause }
+deviceCounted d n =
+    record { phase = d .phase; number = d .number; toggle = d .toggle; ticks = d .ticks + n; kept = d .kept; frame = d .frame; cause = d .cause }
 
 abbrev pub deviceTicksSays : DevicePhase → Setup → DeviceState → ℕ → Outcome
 deviceTicksSays Waiting s d n = Outcome.Quiet

@@ -9,7 +9,7 @@ use Rattle.std.specs.declared.result.Result.the-variants.{Ok}
 use Rattle.machine.specs.declared.outcome.Outcome.the-variants.{Fresh, Fault, Taken}
 use Rattle.block.specs.declared.setup.Setup.{Setup}
 use Rattle.machine.specs.Watch.{Young}
-use Rattle.machine.specs.Calls.{Call, hostOffer, toDevice, deviceOffer, toHost, hostTicks, deviceTicks, button, press, hostRead, deviceRead, Event, Pair}
+use Rattle.machine.specs.Calls.{Call, hostOffer, toDevice, deviceOffer, toHost, hostTicks, deviceTicks, button, press, hostRead, deviceRead, Event}
 
 pub data End : Type 0 where
   host : End

@@ -41,7 +41,8 @@ pub record HostState : Type 0 where
 
 -- a host that starts, or restarts on a fault
 abbrev pub hostStarted : Cause → HostState
-hostStarted cause = record { phase = Restart; number = 0; previous = 0; toggle = false; ticks = 0; stop = true; kept = None; answer = None; cause = cause }
+hostStarted cause =
+    record { phase = Restart; number = 0; previous = 0; toggle = false; ticks = 0; stop = true; kept = None; answer = None; cause = cause }
 
 abbrev pub hostRuns : HostPhase → Bool
 hostRuns Restart = false
@@ -89,7 +90,8 @@ abbrev pub hostOfferSays : HostState → Outcome
 hostOfferSays h = cond (isSome (h .kept)) Repeat Fresh
 
 abbrev pub hostKeeping : HostState → List ℕ → HostState
-hostKeeping h f = record { phase = h .phase; number = h .number; previous = h .previous; toggle = h .toggle; ticks = h .ticks; stop = h .stop; kept = Some f; answer = h .answer; cause = h .cause }
+hostKeeping h f =
+    record { phase = h .phase; number = h .number; previous = h .previous; toggle = h .toggle; ticks = h .ticks; stop = h .stop; kept = Some f; answer = h .answer; cause = h .cause }
 
 abbrev pub hostOfferAnswer : Model → Setup → HostState → List ℕ → ℕ → ℕ → Answer
 hostOfferAnswer m s h values wish room = answered (hostOfferRefused m s h values wish room) (hostOfferSays h)
@@ -138,11 +140,13 @@ hostJudged m s h f = hostJudgedIn (h .phase) m s h f
 
 -- from restart to run, with number 1
 abbrev pub hostOpened : HostState → HostState
-hostOpened h = record { phase = Run; number = 1; previous = 0; toggle = true; ticks = 0; stop = h .stop; kept = None; answer = h .answer; cause = h .cause }
+hostOpened h =
+    record { phase = Run; number = 1; previous = 0; toggle = true; ticks = 0; stop = h .stop; kept = None; answer = h .answer; cause = h .cause }
 
 -- the frame is taken as the answer, and the next number begins
 abbrev pub hostAdvanced : HostState → List ℕ → HostState
-hostAdvanced h f = record { phase = h .phase; number = following (h .number); previous = h .number; toggle = not (h .toggle); ticks = 0; stop = h .stop; kept = None; answer = Some f; cause = h .cause }
+hostAdvanced h f =
+    record { phase = h .phase; number = following (h .number); previous = h .number; toggle = not (h .toggle); ticks = 0; stop = h .stop; kept = None; answer = Some f; cause = h .cause }
 
 abbrev pub hostTakenIn : HostPhase → HostJudged → HostState → List ℕ → HostState
 hostTakenIn Restart HostJudged.Unfit h f = h
@@ -184,7 +188,8 @@ hostHeldAgainst h = hostHeldIn (h .phase) h
 -- Ticks: they count in run.
 
 abbrev pub hostCounted : HostState → ℕ → HostState
-hostCounted h n = record { phase = h .phase; number = h .number; previous = h .previous; toggle = h .toggle; ticks = h .ticks + n; stop = h .stop; kept = h .kept; answer = h .answer; cause = h .cause }
+hostCounted h n =
+    record { phase = h .phase; number = h .number; previous = h .previous; toggle = h .toggle; ticks = h .ticks + n; stop = h .stop; kept = h .kept; answer = h .answer; cause = h .cause }
 
 abbrev pub hostTicksSays : HostPhase → Setup → HostState → ℕ → Outcome
 hostTicksSays Restart s h n = Quiet
@@ -206,7 +211,8 @@ abbrev pub pressAwaited : HostState → Bool
 pressAwaited h = hostRuns (h .phase) && (h .stop && isSome (h .answer))
 
 abbrev pub hostReleased : HostState → HostState
-hostReleased h = record { phase = h .phase; number = h .number; previous = h .previous; toggle = h .toggle; ticks = h .ticks; stop = false; kept = h .kept; answer = h .answer; cause = h .cause }
+hostReleased h =
+    record { phase = h .phase; number = h .number; previous = h .previous; toggle = h .toggle; ticks = h .ticks; stop = false; kept = h .kept; answer = h .answer; cause = h .cause }
 
 abbrev pub hostPressAnswer : HostState → Bool → Answer
 hostPressAnswer h given = cond given (cond (pressAwaited h) (Ok Taken) (Err (refusalAt NoPressAwaited 0))) (Ok Quiet)

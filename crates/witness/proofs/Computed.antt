@@ -2,7 +2,7 @@
 use mathlib.Core.Path.{_≡_, refl}
 use mathlib.Core.Bool.{true}
 use mathlib.Core.List.{List, [], _∷_}
-use mathlib.Core.Logic.{inl, inr}
+use mathlib.Core.Logic.{inl}
 use Prim.Native.Nat.{ℕ, _-_, _*_, _<_}
 use lib.Dec.{lit<}
 use lib.ListN.{take}
@@ -13,11 +13,11 @@ use Rattle.signature.specs.Laws.{Octets}
 use Rattle.kinds.specs.Kinds.{s3, c3}
 use Rattle.machine.specs.declared.outcome.Outcome.the-variants.{Fresh, Process}
 use Rattle.machine.specs.Lines.{On}
-use Rattle.machine.specs.Calls.{Call, hostOffer, toDevice, deviceOffer, toHost, hostTicks, deviceTicks, press, hostRead, deviceRead, happens, after, history, Admissible}
+use Rattle.machine.specs.Calls.{Call, hostOffer, toDevice, deviceOffer, hostTicks, deviceTicks, press, hostRead, deviceRead, happens, after, history, Admissible}
 use Rattle.machine.specs.Events.{host, device, readsHost, readsDevice, offersHost, offersDevice}
 use Rattle.machine.specs.Statement.{Checked}
 use Rattle.witness.specs.Reached.{HandsOutAged}
-use Rattle.witness.specs.Runs.{setup, Frames, begun, asked, taken, hostReads, run, s3Frames, c3Frames, Reached, ReachedByS3, ReachedByC3}
+use Rattle.witness.specs.Runs.{setup, Frames, begun, asked, taken, hostReads, run, s3Frames, c3Frames, ReachedByS3, ReachedByC3}
 
 checked : Checked setup
 checked = record { watched = lit< tt; small = lit< tt }

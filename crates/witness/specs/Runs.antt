@@ -3,7 +3,6 @@ use mathlib.Core.Bool.{true}
 use mathlib.Core.List.{List, [], _∷_}
 use Prim.Native.Nat.{ℕ, _-_, _*_}
 use Rattle.signature.specs.Kind.{Model}
-use Rattle.signature.specs.Laws.{Laws}
 use Rattle.kinds.specs.Kinds.{s3, c3}
 use Rattle.block.specs.declared.setup.Setup.{Setup}
 use Rattle.machine.specs.Calls.{Call, hostOffer, toDevice, deviceOffer, toHost, hostTicks, deviceTicks, press, hostRead, deviceRead, Admissible}

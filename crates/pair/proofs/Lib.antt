@@ -1,0 +1,2 @@
+-- The lemmas behind the contracts of this crate.
+pub mod Along

@@ -1,0 +1,14 @@
+-- The ends and the answers so far are the machine's after the calls before this one.
+use mathlib.Core.Path.{_≡_}
+use lib.ListN.{length, take}
+use Rattle.std.specs.Of.Vec.{vec-items}
+use Rattle.pair.specs.Views.{blankEnds, ends}
+use Rattle.pair.proofs.Along.{Going}
+use Rattle.pair.proofs.runner.run.Given as given
+
+abbrev pub Inv-loop-call : given.InvT-loop-call
+Inv-loop-call g l =
+    (l .pair .host .setup ≡ l .entry .pair .host .setup)
+    × (l .pair .device .setup ≡ l .entry .pair .device .setup)
+    × (g .D·SignatureKind .model ≡ g .H·SignatureKind .model → l .entry .pair .device .setup ≡ l .entry .pair .host .setup
+    → Going (g .H·SignatureKind .model) (l .entry .pair .host .setup) (length (l .entry .buffer)) (take (l .call-index) (l .calls)) (ends (l .pair)) (vec-items (l .answers)))

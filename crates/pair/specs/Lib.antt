@@ -1,0 +1,5 @@
+-- The definitions that the contracts of this crate cite.
+pub mod Views
+pub mod Callings
+pub mod Made
+pub mod Runs

@@ -1,0 +1,8 @@
+// A host and a device end with a button, and lists of calls on them.
+mod call;
+mod pair;
+mod runner;
+
+pub use call::Call;
+pub use pair::Pair;
+pub use runner::run;

@@ -10,11 +10,11 @@ mod read;
 mod take;
 mod tick;
 
+use block::CheckedBlock;
+use block::Setup;
 use frame::Frame;
 use machine::Cause;
 use machine::DevicePhase;
-use block::CheckedBlock;
-use block::Setup;
 use signature::Number;
 use signature::SignatureKind;
 use std::marker::PhantomData;

@@ -11,6 +11,7 @@ ghost use Rattle.frame.specs.Held.{framed};
 ghost use Rattle.host.specs.View.{hostView};
 use crate::button::Press;
 use block::CheckedBlock;
+use block::Setup;
 use frame::Frame;
 use frame::control;
 use frame::flag;
@@ -22,7 +23,6 @@ use machine::Cause;
 use machine::HostJudged;
 use machine::HostPhase;
 use machine::Outcome;
-use block::Setup;
 use refusal::Reason;
 use refusal::Refusal;
 use signature::Number;
@@ -111,12 +111,6 @@ impl<K: SignatureKind> Host<K> {
     {
         let Host { cause, .. } = self;
         *cause
-    }
-
-    pub fn setup(&self) -> Setup
-        ensures { λ r. ⌜ r ≡ now (self .entry) .setup ⌝ }
-    {
-        self.setup
     }
 
     // What a reading would answer.

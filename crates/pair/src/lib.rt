@@ -5,4 +5,5 @@ mod runner;
 
 pub use call::Call;
 pub use pair::Pair;
+pub use pair::Seen;
 pub use runner::run;

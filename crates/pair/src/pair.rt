@@ -31,6 +31,10 @@ pub struct Pair<H: SignatureKind, D: SignatureKind> {
     press: Option<Press>,
 }
 
+mod seen;
+
+pub use seen::Seen;
+
 impl<H: SignatureKind, D: SignatureKind> Pair<H, D> {
     // Starts both ends from their checked blocks, which are used up, and a new button.
     pub fn start(host: CheckedBlock<H>, device: CheckedBlock<D>) -> Pair<H, D>
@@ -44,18 +48,6 @@ impl<H: SignatureKind, D: SignatureKind> Pair<H, D> {
             button: Button::new(),
             press: None,
         }
-    }
-
-    pub fn host(&self) -> &Host<H>
-        ensures { λ r. ⌜ now r ≡ now (self .entry) .host ⌝ }
-    {
-        &self.host
-    }
-
-    pub fn device(&self) -> &Device<D>
-        ensures { λ r. ⌜ now r ≡ now (self .entry) .device ⌝ }
-    {
-        &self.device
     }
 
     // Reads the button; a press that it yields waits to be handed over.

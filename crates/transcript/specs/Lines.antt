@@ -12,7 +12,7 @@ use Rattle.machine.specs.declared.phase.HostPhase.the-variants as hostPhase
 use Rattle.machine.specs.declared.phase.DevicePhase.{DevicePhase}
 use Rattle.machine.specs.declared.phase.DevicePhase.the-variants as devicePhase
 use Rattle.machine.specs.Words.{outcomeName}
-use Rattle.transcript.specs.declared.line.Seen.{Seen}
+use Rattle.pair.specs.declared.pair.seen.Seen.{Seen}
 use Rattle.transcript.specs.declared.line.Line.{Line}
 use Rattle.transcript.specs.declared.line.Line.the-variants.{Done, TurnedDown, Ended, Refused}
 

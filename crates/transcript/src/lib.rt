@@ -11,6 +11,4 @@ mod text;
 pub use bench::Bench;
 pub use line::Line;
 pub use line::LineDisplay;
-pub use line::Seen;
-pub use line::SeenDisplay;
 pub use text::transcript;

@@ -6,20 +6,10 @@ use book::Kind;
 use machine::DevicePhase;
 use machine::HostPhase;
 use machine::Outcome;
+use pair::Seen;
 use refusal::Reason;
 use refusal::Refusal;
 use std::fmt;
-
-// What is to be seen of a pair: phase and number of each end, and what each would hand out.
-#[derive(Clone, Copy)]
-pub struct Seen {
-    pub host_phase: HostPhase,
-    pub host_number: u32,
-    pub device_phase: DevicePhase,
-    pub device_number: u32,
-    pub host_reads: Outcome,
-    pub device_reads: Outcome,
-}
 
 #[derive(Clone, Copy)]
 pub enum Line {
@@ -38,7 +28,10 @@ pub enum Line {
         octet: u128,
     },
     // The book ended: its size in octets, and how many records it has.
-    Ended { size: usize, records: usize },
+    Ended {
+        size: usize,
+        records: usize,
+    },
     // What was read is no book, or stops being one there.
     Refused(Refusal),
 }
@@ -71,17 +64,27 @@ fn reading_letter(outcome: Outcome) -> &'static str
     }
 }
 
-pub impl fmt::Display for Seen as SeenDisplay {
-    ghost shown = { λ x. Some (saw x) };
+// What is to be seen of a pair, as it is printed.
+#[derive(Clone, Copy)]
+struct Shown {
+    seen: Seen,
+}
+
+impl fmt::Display for Shown as ShownDisplay {
+    ghost shown = { λ x. Some (saw (x .seen)) };
 
     fn fmt<W: fmt::Write>(&self, f: &mut fmt::Formatter<W>) -> fmt::Result {
-        let host = host_phase_letter(self.host_phase);
-        let host_number = self.host_number;
-        let device = device_phase_letter(self.device_phase);
-        let device_number = self.device_number;
-        let host_reads = reading_letter(self.host_reads);
-        let device_reads = reading_letter(self.device_reads);
-        write!(f, "{host}{host_number} {device}{device_number} {host_reads}{device_reads}")
+        let seen = self.seen;
+        let host = host_phase_letter(seen.host_phase);
+        let host_number = seen.host_number;
+        let device = device_phase_letter(seen.device_phase);
+        let device_number = seen.device_number;
+        let host_reads = reading_letter(seen.host_reads);
+        let device_reads = reading_letter(seen.device_reads);
+        write!(
+            f,
+            "{host}{host_number} {device}{device_number} {host_reads}{device_reads}"
+        )
     }
 }
 
@@ -98,7 +101,8 @@ pub impl fmt::Display for Line as LineDisplay {
             } => {
                 let word = kind.word();
                 let name = outcome.name();
-                write!(f, "{place} {word} {name} {seen}")
+                let shown = Shown { seen: *seen };
+                write!(f, "{place} {word} {name} {shown}")
             }
             Line::TurnedDown {
                 place,

@@ -1,34 +1,15 @@
-// Lines made of a record's place and kind, its answer, and the pair after it.
+// Lines made of a record's place and kind, its answer, and what is to be seen after it.
 ghost use mathlib.Core.Path.{_≡_};
-ghost use Rattle.pair.specs.Views.{ends};
-ghost use Rattle.transcript.specs.Replays.{answerLine, outOfTurn, seenAt, turnedDown};
+ghost use Rattle.transcript.specs.Replays.{answerLine, outOfTurn, turnedDown};
 use crate::line::Line;
-use crate::line::Seen;
 use book::Kind;
 use machine::Outcome;
-use pair::Pair;
+use pair::Seen;
 use refusal::Reason;
 use refusal::Refusal;
-use signature::SignatureKind;
 
 // A record's body begins so many octets behind its place.
 const BODY: u8 = 3;
-
-// What is to be seen of a pair.
-pub fn seen<K: SignatureKind>(pair: &Pair<K, K>) -> Seen
-    ensures { λ r. ⌜ r ≡ seenAt (now (pair .entry) .host .setup) (now (pair .entry) .device .setup) (ends (now (pair .entry)) .host) (ends (now (pair .entry)) .device) ⌝ }
-{
-    let host = pair.host();
-    let device = pair.device();
-    Seen {
-        host_phase: host.phase(),
-        host_number: host.number().value(),
-        device_phase: device.phase(),
-        device_number: device.number().value(),
-        host_reads: host.reading(),
-        device_reads: device.reading(),
-    }
-}
 
 // The line of a refusal, whose place counts from `into` octets behind the record's place.
 pub fn turned_down(place: usize, kind: Kind, into: u8, refusal: Refusal) -> Line

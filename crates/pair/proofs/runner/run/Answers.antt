@@ -15,8 +15,7 @@ use Rattle.pair.proofs.runner.run.Needs as need
 
 pub loop-call-again : need.loop-call-again
 loop-call-again g c =
-    let i = c .loop-call .inv in
-    (
+    let i = c .loop-call .inv in (
       c .call .ensures .host-setup ∙ i .0,
       c .call .ensures .device-setup ∙ i .1,
       λ one same.

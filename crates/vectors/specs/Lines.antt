@@ -1,0 +1,54 @@
+-- How a vector is written as a line of the table, and what the definitions answer to it.
+use mathlib.Core.Bool.{cond}
+use mathlib.Core.List.{List, [], _∷_, _++_}
+use Prim.Native.Nat.{ℕ}
+use lib.Chars.{codes}
+use Rattle.signature.specs.Kind.{Model, feed, fitsNumber, octets, signature}
+use Rattle.signature.specs.Numbers.{numeral}
+use Rattle.kinds.specs.Kinds.{c3, s3, s4}
+use Rattle.vectors.specs.Hex.{hexText}
+use Rattle.vectors.specs.declared.table.Asked.{Asked}
+use Rattle.vectors.specs.declared.table.Asked.the-variants.{Sign, Fits, Run}
+use Rattle.vectors.specs.declared.table.KindName.{KindName}
+use Rattle.vectors.specs.declared.table.KindName.the-variants.{S3, S4, C3}
+use Rattle.vectors.specs.declared.table.Signing.{Signing}
+
+-- a field, a space, and what follows
+abbrev pub spaced : List ℕ → List ℕ → List ℕ
+spaced field rest = field ++ (32 ∷ rest)
+
+abbrev pub kindWord : KindName → List ℕ
+kindWord S3 = codes "S3"
+kindWord S4 = codes "S4"
+kindWord C3 = codes "C3"
+
+abbrev pub modelOf : KindName → Model
+modelOf S3 = s3
+modelOf S4 = s4
+modelOf C3 = c3
+
+abbrev pub formWord : Asked → List ℕ
+formWord (Sign s) = codes "sign"
+formWord (Fits s) = codes "fits"
+formWord (Run start) = codes "run"
+
+-- a block's check value and a number
+abbrev pub signedUnder : Signing → List ℕ → List ℕ
+signedUnder s rest = spaced (hexText (octets 2 (s .crc))) (spaced (hexText (octets 3 (numeral (s .number)))) rest)
+
+-- the fields that a frame is signed under, or the register that a run starts from
+abbrev pub headed : KindName → Asked → List ℕ → List ℕ
+headed k (Sign s) rest = signedUnder s rest
+headed k (Fits s) rest = signedUnder s rest
+headed k (Run start) rest = spaced (hexText (octets (modelOf k .width) start)) rest
+
+-- the line of a vector: its form, its kind, the fields above, the octets and the answer
+abbrev pub written : KindName → Asked → List ℕ → List ℕ → List ℕ
+written k a os answer = spaced (formWord a) (spaced (kindWord k) (headed k a (spaced (hexText os) (hexText answer))))
+
+-- What the definitions answer: the signature of the octets, 1 if they are a frame that fits, or the register
+-- after them.
+abbrev pub answered : Model → Asked → List ℕ → List ℕ
+answered m (Sign s) os = signature m (s .crc) (numeral (s .number)) os
+answered m (Fits s) os = cond (fitsNumber m (s .crc) (numeral (s .number)) os) (1 ∷ []) (0 ∷ [])
+answered m (Run start) os = octets (m .width) (feed m start os)

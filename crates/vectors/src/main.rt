@@ -1,0 +1,4 @@
+// Runs the table of vectors through the signature kinds.
+mod table;
+
+fn main() {}

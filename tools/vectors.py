@@ -9,8 +9,8 @@ the same. A line is one vector: its fields stand one space apart and the answer 
 and figures are hexadecimal, two digits to an octet, and no octets are an empty field.
 
     sign KIND CRC NUMBER OCTETS SIGNATURE    the signature of the octets under the number
-    fits KIND CRC NUMBER FRAME 0|1           whether the frame fits the number
-    run KIND START OCTETS REGISTER           the register after the octets, from any start
+    fits KIND CRC NUMBER FRAME 00|01         whether the frame fits the number: 01 if it does
+    run KIND START OCTETS REGISTER           the register after the octets, from any start (four octets)
     crc OCTETS REGISTER                      the check value of a parameter block, from register 0
 """
 import sys
@@ -152,13 +152,12 @@ def fits_line(kind, crc, number, frame, due=None):
     """`due`: what the rules promise of this frame, where they promise something."""
     answer = fits(kind, crc, number, frame)
     assert due is None or answer == due, (kind, crc, number, frame.hex())
-    return f"fits {kind} {crc:04x} {number:06x} {frame.hex()} {int(answer)}"
+    return f"fits {kind} {crc:04x} {number:06x} {frame.hex()} {int(answer):02x}"
 
 
 def run_line(kind, start, octets, register):
     assert run(kind, start, octets) == register, (kind, start, octets.hex())
-    digits = 2 * WIDTH[kind]
-    return f"run {kind} {start:0{digits}x} {octets.hex()} {register:0{digits}x}"
+    return f"run {kind} {start:08x} {octets.hex()} {register.to_bytes(WIDTH[kind], 'big').hex()}"
 
 
 def crc_line(octets):

@@ -37,9 +37,9 @@ pub no-octet : (text done left : List ℕ) → ((o : ℕ) (rest : List ℕ) → 
     → Reading text done left → (os : List ℕ) → text ≡ hexText os → ⊥
 no-octet text done left none some r os h = let ys = r .on os h in refuted (ys .0) (ys .1)
   where
-  refuted : (ys : List ℕ) → left ≡ hexText ys → ⊥
-  refuted [] e = omega (arith, ap length e)
-  refuted (y ∷ ys) e = none y (hexText ys) e
+    refuted : (ys : List ℕ) → left ≡ hexText ys → ⊥
+    refuted [] e = omega (arith, ap length e)
+    refuted (y ∷ ys) e = none y (hexText ys) e
 
 length-hex : (os : List ℕ) → length (hexText os) ≡ 2 * length os
 length-hex [] = refl

@@ -2,3 +2,4 @@
 pub mod Hexes
 pub mod Figures
 pub mod Cuts
+pub mod Heads

@@ -3,6 +3,7 @@ use mathlib.Core.Bool.{cond}
 use mathlib.Core.List.{List, [], _∷_, _++_}
 use Prim.Native.Nat.{ℕ}
 use lib.Chars.{codes}
+use Rattle.std.specs.Of.Vec.{vec-items}
 use Rattle.signature.specs.Kind.{Model, feed, fitsNumber, octets, signature}
 use Rattle.signature.specs.Numbers.{numeral}
 use Rattle.kinds.specs.Kinds.{c3, s3, s4}
@@ -12,6 +13,7 @@ use Rattle.vectors.specs.declared.table.Asked.the-variants.{Sign, Fits, Run}
 use Rattle.vectors.specs.declared.table.KindName.{KindName}
 use Rattle.vectors.specs.declared.table.KindName.the-variants.{S3, S4, C3}
 use Rattle.vectors.specs.declared.table.Signing.{Signing}
+use Rattle.vectors.specs.declared.table.Vector.{Vector}
 
 -- a field, a space, and what follows
 abbrev pub spaced : List ℕ → List ℕ → List ℕ
@@ -37,14 +39,17 @@ abbrev pub signedUnder : Signing → List ℕ → List ℕ
 signedUnder s rest = spaced (hexText (octets 2 (s .crc))) (spaced (hexText (octets 3 (numeral (s .number)))) rest)
 
 -- the fields that a frame is signed under, or the register that a run starts from
-abbrev pub headed : KindName → Asked → List ℕ → List ℕ
-headed k (Sign s) rest = signedUnder s rest
-headed k (Fits s) rest = signedUnder s rest
-headed k (Run start) rest = spaced (hexText (octets (modelOf k .width) start)) rest
+abbrev pub headed : Asked → List ℕ → List ℕ
+headed (Sign s) rest = signedUnder s rest
+headed (Fits s) rest = signedUnder s rest
+headed (Run start) rest = spaced (hexText (octets 4 start)) rest
 
 -- the line of a vector: its form, its kind, the fields above, the octets and the answer
 abbrev pub written : KindName → Asked → List ℕ → List ℕ → List ℕ
-written k a os answer = spaced (formWord a) (spaced (kindWord k) (headed k a (spaced (hexText os) (hexText answer))))
+written k a os answer = spaced (formWord a) (spaced (kindWord k) (headed a (spaced (hexText os) (hexText answer))))
+
+abbrev pub lineOf : Vector → List ℕ
+lineOf v = written (v .kind) (v .asked) (vec-items (v .octets)) (vec-items (v .answer))
 
 -- What the definitions answer: the signature of the octets, 1 if they are a frame that fits, or the register
 -- after them.

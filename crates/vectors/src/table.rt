@@ -1,4 +1,4 @@
-// A line of the table of vectors: how it is read, and what the code answers to it.
+// The lines of the table of vectors, and how a vector is read from its line.
 ghost use mathlib.Core.List.{List, _++_};
 ghost use mathlib.Core.Path.{_≡_};
 ghost use Prim.Native.Nat.{ℕ, _<_, _≤_, _^_};
@@ -10,7 +10,7 @@ ghost use Rattle.std.specs.Text.{digitChar};
 ghost use Rattle.std.specs.Vec.{made};
 ghost use Rattle.signature.specs.Kind.{octets};
 ghost use Rattle.vectors.specs.Hex.{hexText, pair};
-ghost use Rattle.vectors.specs.Lines.{formWord, headed, kindWord, modelOf, signedUnder, spaced, written};
+ghost use Rattle.vectors.specs.Lines.{formWord, headed, kindWord, lineOf, signedUnder, spaced, written};
 use signature::Number;
 use std::alloc::AllocError;
 use std::alloc::Global;
@@ -43,11 +43,11 @@ pub enum Asked {
 // One line of the table.
 #[derive(Drop)]
 pub struct Vector {
-    kind: KindName,
-    asked: Asked,
-    octets: Vec<u8>,
+    pub kind: KindName,
+    pub asked: Asked,
+    pub octets: Vec<u8>,
     // What the line says that the answer is.
-    answer: Vec<u8>,
+    pub answer: Vec<u8>,
 }
 
 impl KindName {
@@ -59,16 +59,6 @@ impl KindName {
             "S4" => Some(KindName::S4),
             "C3" => Some(KindName::C3),
             _ => None,
-        }
-    }
-
-    // How many octets a register has.
-    fn width(self) -> usize
-        ensures { λ r. ⌜ r ≡ modelOf self .width ⌝ }
-    {
-        match self {
-            KindName::S3 | KindName::C3 => 3,
-            KindName::S4 => 4,
         }
     }
 }
@@ -182,9 +172,13 @@ fn read_octets(heap: Global, text: &str) -> Result<Option<(Vec<u8>, Vec<u8>)>, A
     Ok(Some((octets, answer)))
 }
 
-// What a form asks of a kind, and the rest of the text.
-fn read_asked<'a>(heap: Global, form: &str, kind: KindName, text: &'a str) -> Result<Option<(Asked, &'a str)>, AllocError>
-    ensures { λ r. ⌜ made r (λ o. Cases o ((a : Asked) (rest : List ℕ) → now (form .entry) ≡ formWord a → now (text .entry) ≡ headed kind a rest → ⊥) (λ p. (now (form .entry) ≡ formWord (p .0)) × (now (text .entry) ≡ headed kind (p .0) (now (p .1))))) ⌝ }
+// What a form asks, and the rest of the text.
+fn read_asked<'a>(
+    heap: Global,
+    form: &str,
+    text: &'a str,
+) -> Result<Option<(Asked, &'a str)>, AllocError>
+    ensures { λ r. ⌜ made r (λ o. Cases o ((a : Asked) (rest : List ℕ) → now (form .entry) ≡ formWord a → now (text .entry) ≡ headed a rest → ⊥) (λ p. (now (form .entry) ≡ formWord (p .0)) × (now (text .entry) ≡ headed (p .0) (now (p .1))))) ⌝ }
 {
     match form {
         "sign" => match read_signing(heap, text)? {
@@ -195,7 +189,7 @@ fn read_asked<'a>(heap: Global, form: &str, kind: KindName, text: &'a str) -> Re
             Some((signing, rest)) => Ok(Some((Asked::Fits(signing), rest))),
             None => Ok(None),
         },
-        "run" => match read_figure(heap, text, kind.width())? {
+        "run" => match read_figure(heap, text, 4)? {
             Some((start, rest)) => Ok(Some((Asked::Run(start), rest))),
             None => Ok(None),
         },
@@ -204,8 +198,8 @@ fn read_asked<'a>(heap: Global, form: &str, kind: KindName, text: &'a str) -> Re
 }
 
 // The vector that a line writes; none if it writes none.
-fn read(heap: Global, line: &str) -> Result<Option<Vector>, AllocError>
-    ensures { λ r. ⌜ made r (λ o. Cases o ((k : KindName) (a : Asked) (os answer : List ℕ) → now (line .entry) ≡ written k a os answer → ⊥) (λ v. now (line .entry) ≡ written (v .kind) (v .asked) (vec-items (v .octets)) (vec-items (v .answer)))) ⌝ }
+pub fn read(heap: Global, line: &str) -> Result<Option<Vector>, AllocError>
+    ensures { λ r. ⌜ made r (λ o. Cases o ((k : KindName) (a : Asked) (os answer : List ℕ) → now (line .entry) ≡ written k a os answer → ⊥) (λ v. now (line .entry) ≡ lineOf v)) ⌝ }
 {
     let Some((form, after_form)) = cut(line) else {
         return Ok(None);
@@ -216,11 +210,16 @@ fn read(heap: Global, line: &str) -> Result<Option<Vector>, AllocError>
     let Some(kind) = KindName::of(word) else {
         return Ok(None);
     };
-    let Some((asked, rest)) = read_asked(heap, form, kind, after_kind)? else {
+    let Some((asked, rest)) = read_asked(heap, form, after_kind)? else {
         return Ok(None);
     };
     let Some((octets, answer)) = read_octets(heap, rest)? else {
         return Ok(None);
     };
-    Ok(Some(Vector { kind, asked, octets, answer }))
+    Ok(Some(Vector {
+        kind,
+        asked,
+        octets,
+        answer,
+    }))
 }

@@ -24,12 +24,13 @@ loop-o-again c =
     let i : ℕ = c .loop-o .o-index in
     let o : ℕ = c .from .result in
     let small : o < 256 = omega (arith, c .typed .spelt i) in
-    let more = take-more (c .args .spelt .now) i 0 (c .loop-o-test .taken) in
-    ( octets-more i (c .loop-o .x) o small
-    ∙ ap (λ (os : List ℕ). os ++ (o ∷ [])) (c .loop-o .inv .0)
-    ∙ ap (λ (x : ℕ). take i (c .args .spelt .now) ++ (x ∷ [])) (c .from .ensures)
-    ∙ sym more
-    , below-more i (c .loop-o .x) o (c .loop-o .inv .1) small )
+    let more = take-more (c .args .spelt .now) i 0 (c .loop-o-test .taken) in (
+      octets-more i (c .loop-o .x) o small
+          ∙ ap (λ (os : List ℕ). os ++ (o ∷ [])) (c .loop-o .inv .0)
+          ∙ ap (λ (x : ℕ). take i (c .args .spelt .now) ++ (x ∷ [])) (c .from .ensures)
+          ∙ sym more,
+      below-more i (c .loop-o .x) o (c .loop-o .inv .1) small,
+    )
 
 pub returns : need.returns
 returns c =

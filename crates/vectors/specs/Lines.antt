@@ -1,12 +1,10 @@
--- How a vector is written as a line of the table, and what the definitions answer to it.
-use mathlib.Core.Bool.{cond}
-use mathlib.Core.List.{List, [], _∷_, _++_}
+-- How a vector is written as a line of the table.
+use mathlib.Core.List.{List, _∷_, _++_}
 use Prim.Native.Nat.{ℕ}
 use lib.Chars.{codes}
 use Rattle.std.specs.Of.Vec.{vec-items}
-use Rattle.signature.specs.Kind.{Model, feed, fitsNumber, octets, signature}
+use Rattle.signature.specs.Kind.{octets}
 use Rattle.signature.specs.Numbers.{numeral}
-use Rattle.kinds.specs.Kinds.{c3, s3, s4}
 use Rattle.vectors.specs.Hex.{hexText}
 use Rattle.vectors.specs.declared.table.Asked.{Asked}
 use Rattle.vectors.specs.declared.table.Asked.the-variants.{Sign, Fits, Run}
@@ -24,11 +22,6 @@ kindWord S3 = codes "S3"
 kindWord S4 = codes "S4"
 kindWord C3 = codes "C3"
 
-abbrev pub modelOf : KindName → Model
-modelOf S3 = s3
-modelOf S4 = s4
-modelOf C3 = c3
-
 abbrev pub formWord : Asked → List ℕ
 formWord (Sign s) = codes "sign"
 formWord (Fits s) = codes "fits"
@@ -44,16 +37,9 @@ headed (Sign s) rest = signedUnder s rest
 headed (Fits s) rest = signedUnder s rest
 headed (Run start) rest = spaced (hexText (octets 4 start)) rest
 
--- the line of a vector: its form, its kind, the fields above, the octets and the answer
+-- the line of a vector: form, kind, the fields above, octets, and the answer that it states
 abbrev pub written : KindName → Asked → List ℕ → List ℕ → List ℕ
 written k a os answer = spaced (formWord a) (spaced (kindWord k) (headed a (spaced (hexText os) (hexText answer))))
 
 abbrev pub lineOf : Vector → List ℕ
 lineOf v = written (v .kind) (v .asked) (vec-items (v .octets)) (vec-items (v .answer))
-
--- What the definitions answer: the signature of the octets, 1 if they are a frame that fits, or the register
--- after them.
-abbrev pub answered : Model → Asked → List ℕ → List ℕ
-answered m (Sign s) os = signature m (s .crc) (numeral (s .number)) os
-answered m (Fits s) os = cond (fitsNumber m (s .crc) (numeral (s .number)) os) (1 ∷ []) (0 ∷ [])
-answered m (Run start) os = octets (m .width) (feed m start os)

@@ -3,16 +3,12 @@ use mathlib.Core.List.{List}
 use mathlib.Core.Path.{_≡_}
 use Prim.Native.Nat.{ℕ}
 use Rattle.std.specs.Of.Vec.{vec-items}
-use Rattle.vectors.specs.Lines.{answered, lineOf, modelOf, written}
+use Rattle.vectors.specs.Due.{due}
+use Rattle.vectors.specs.Lines.{lineOf, written}
 use Rattle.vectors.specs.declared.table.Asked.{Asked}
 use Rattle.vectors.specs.declared.table.KindName.{KindName}
-use Rattle.vectors.specs.declared.table.Vector.{Vector}
 use Rattle.vectors.specs.declared.verdict.Verdict.{Verdict}
 use Rattle.vectors.specs.declared.verdict.Verdict.the-variants.{Agrees, Differs, Malformed}
-
--- what the definitions answer to a vector
-abbrev pub due : Vector → List ℕ
-due v = answered (modelOf (v .kind)) (v .asked) (vec-items (v .octets))
 
 -- A line agrees if the answer in it is the one that is due; it differs if another is due; it is malformed if it
 -- is the line of no vector.

@@ -1,13 +1,11 @@
 // What the code answers to a vector, and whether that is what its line says.
-ghost use mathlib.Core.List.{List};
 ghost use mathlib.Core.Path.{_≡_};
-ghost use Prim.Native.Nat.{ℕ};
 ghost use lib.ListN.{take};
 ghost use Rattle.std.specs.Of.Vec.{vec-items};
 ghost use Rattle.std.specs.Orderings.{Decides};
 ghost use Rattle.std.specs.Vec.{made};
 ghost use Rattle.signature.specs.Kind.{feed};
-ghost use Rattle.vectors.specs.Lines.{answered, modelOf};
+ghost use Rattle.vectors.specs.Due.{answered, modelOf};
 ghost use Rattle.vectors.specs.Verdicts.{Judges};
 use crate::table::Asked;
 use crate::table::KindName;

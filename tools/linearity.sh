@@ -199,10 +199,10 @@ for i in "${!trials[@]}"; do
         continue
     fi
     rt dev "$name" >"$name.log" 2>&1 && status=0 || status=$?
-    found=$(grep -o "crates/$name/src/lib.rt:[0-9:]* error\[[a-z0-9-]*\]" "$name.log" | sed 's/.*\[\(.*\)\]/\1/' | sort -u | tr '\n' ' ')
+    found=$(grep -o "crates/$name/src/lib.rt:[0-9:]* error\[[a-z0-9-]*\]" "$name.log" | sed 's/.*\[\(.*\)\]/\1/' | sort -u | paste -sd ' ' -)
     if [ "$status" -eq 0 ]; then
         echo "$name: ACCEPTED" && accepted=$((accepted + 1))
-    elif [ "$found" = "$code " ]; then
+    elif [ "$found" = "$code" ]; then
         echo "$name: refused by $code"
     else
         echo "$name: failed by ${found:-no error of its own}, not by $code" && astray=$((astray + 1))

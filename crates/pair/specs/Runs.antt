@@ -3,9 +3,10 @@ use mathlib.Core.Path.{_≡_}
 use mathlib.Core.Bool.{Bool, false}
 use mathlib.Core.List.{List, [], _∷_, _++_}
 use Prim.Native.Nat.{ℕ}
+use lib.ListN.{length}
 use Rattle.signature.specs.Kind.{Model}
 use Rattle.block.specs.declared.setup.Setup.{Setup}
-use Rattle.machine.specs.Answers.{Answer}
+use Rattle.machine.specs.Answers.{Answer, written}
 use Rattle.machine.specs.Calls.{happens, after, Admissible}
 use Rattle.machine.specs.Calls as machine
 use Rattle.machine.specs.Statement.{Safe}
@@ -34,8 +35,14 @@ abbrev pub answersTo : Model → Setup → List machine.Call → List Answer
 answersTo m s [] = []
 answersTo m s (c ∷ calls) = answersTo m s calls ++ (happens m s (after m s calls) c .answer ∷ [])
 
--- Running the calls cs answers what the machine answers, call by call, and if the lines allow the list, the whole
--- safety statement holds of it.
-pub record Runs (m : Model) (s : Setup) (room : ℕ) (cs : List Call) (answers : List Answer) : Type 0 where
-  pub told : answers ≡ answersTo m s (along m s room none cs .calls)
-  pub safe : Admissible m s (along m s room none cs .calls) → Safe m s (along m s room none cs .calls)
+-- a buffer after all octets that calls have written into it
+abbrev pub bufferAfter : Model → Setup → List machine.Call → List ℕ → List ℕ
+bufferAfter m s [] buffer = buffer
+bufferAfter m s (c ∷ calls) buffer = written (happens m s (after m s calls) c .octets) (bufferAfter m s calls buffer)
+
+-- Running the calls cs, all with one buffer, answers what the machine answers, call by call, and leaves in the buffer what
+-- the machine has written; and if the lines allow the list, the whole safety statement holds of it.
+pub record Runs (m : Model) (s : Setup) (cs : List Call) (answers : List Answer) (old new : List ℕ) : Type 0 where
+  pub told : answers ≡ answersTo m s (along m s (length old) none cs .calls)
+  pub buffer : new ≡ bufferAfter m s (along m s (length old) none cs .calls) old
+  pub safe : Admissible m s (along m s (length old) none cs .calls) → Safe m s (along m s (length old) none cs .calls)

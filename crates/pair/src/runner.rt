@@ -1,6 +1,5 @@
 // A list of calls run on a blank pair.
 ghost use mathlib.Core.Path.{_≡_};
-ghost use lib.ListN.{length};
 ghost use Rattle.std.specs.Of.Vec.{vec-items};
 ghost use Rattle.std.specs.Vec.{made};
 ghost use Rattle.pair.specs.Runs.{Runs};
@@ -22,7 +21,7 @@ pub fn run<H: SignatureKind, D: SignatureKind>(
     calls: &[Call<'_>],
     buffer: &mut [u8],
 ) -> Result<Vec<Result<Outcome, Refusal>>, AllocError>
-    ensures { λ r. ⌜ made r (λ answers. D·SignatureKind .model ≡ H·SignatureKind .model → blocks .1 .setup ≡ blocks .0 .setup → Runs (H·SignatureKind .model) (blocks .0 .setup) (length (now (buffer .entry))) (now (calls .entry)) (vec-items answers)) ⌝ }
+    ensures { λ r. ⌜ made r (λ answers. D·SignatureKind .model ≡ H·SignatureKind .model → blocks .1 .setup ≡ blocks .0 .setup → Runs (H·SignatureKind .model) (blocks .0 .setup) (now (calls .entry)) (vec-items answers) (now (buffer .entry)) (now (buffer .exit))) ⌝ }
 {
     let (host, device) = blocks;
     let mut pair = Pair::start(host, device);

@@ -157,7 +157,7 @@ fn read_signing(heap: Global, text: &str) -> Result<Option<(Signing, &str)>, All
 }
 
 // The octets of a line and its answer, which are its last two fields.
-fn read_octets(heap: Global, text: &str) -> Result<Option<(Vec<u8>, Vec<u8>)>, AllocError>
+pub fn read_octets(heap: Global, text: &str) -> Result<Option<(Vec<u8>, Vec<u8>)>, AllocError>
     ensures { λ r. ⌜ made r (λ o. Cases o ((os answer : List ℕ) → now (text .entry) ≡ spaced (hexText os) (hexText answer) → ⊥) (λ p. now (text .entry) ≡ spaced (hexText (vec-items (p .0))) (hexText (vec-items (p .1))))) ⌝ }
 {
     let Some((field, rest)) = cut(text) else {

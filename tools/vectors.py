@@ -18,9 +18,6 @@ from pathlib import Path
 
 TABLE = Path(__file__).resolve().parent.parent / "crates" / "vectors" / "stdin"
 
-# Whether the table has the lines of the block's check value.
-WITH_CRC = False
-
 WIDTH = {"S3": 3, "S4": 4, "C3": 3}
 POLYNOMIAL = {"S3": 0x5D6DCB, "S4": 0xF4ACFB13}
 BLOCK_POLYNOMIAL = 0x4EAB
@@ -237,8 +234,7 @@ def lines():
         yield from short_frames(kind, source)
         yield from every_bit(kind, source)
         yield from frames(kind, source)
-    if WITH_CRC:
-        yield from blocks(source)
+    yield from blocks(source)
 
 
 def main():

@@ -1,4 +1,4 @@
-// The coupler as one machine: the outcomes, phases, causes and setup that both ends share, and the safety statement.
+// The coupler as one machine: the outcomes, phases and causes that both ends share, and the safety statement.
 mod judged;
 mod outcome;
 mod phase;

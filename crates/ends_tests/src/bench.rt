@@ -10,9 +10,13 @@ use refusal::Refusal;
 use signature::SignatureKind;
 use std::test::*;
 
+mod edges;
+mod pairs;
+mod shifts;
+
 // A step of a shift. A damaged frame has one bit turned.
 #[derive(Clone, Copy)]
-pub enum Step {
+enum Step {
     HostOffer([u8; 2], u8),
     ToDevice,
     DamagedToDevice,
@@ -26,19 +30,19 @@ pub enum Step {
 
 // Two data octets out, three in.
 #[derive(Drop)]
-pub struct Bench<K: SignatureKind> {
-    pub host: Host<K>,
-    pub device: Device<K>,
-    pub button: Button,
-    pub to_device: [u8; 12],
-    pub to_host: [u8; 12],
+struct Bench<K: SignatureKind> {
+    host: Host<K>,
+    device: Device<K>,
+    button: Button,
+    to_device: [u8; 12],
+    to_host: [u8; 12],
 }
 
 // A step and what it answers.
-pub type Row = (Step, &'static str);
+type Row = (Step, &'static str);
 
 // From a restart of the host to process values at both ends.
-pub const INTO_RUN: [Row; 14] = [
+const INTO_RUN: [Row; 14] = [
     (Step::HostOffer([1, 2], 0), "fresh"),
     (Step::ToDevice, "restart"),
     (Step::DeviceOffer([3, 4, 5], 0), "fresh"),
@@ -56,7 +60,7 @@ pub const INTO_RUN: [Row; 14] = [
 ];
 
 // The outcome's word, or the number of an end's refusal.
-pub fn said(answer: Result<Outcome, Refusal>) -> &'static str {
+fn said(answer: Result<Outcome, Refusal>) -> &'static str {
     match answer {
         Ok(outcome) => outcome.name(),
         Err(refusal) => match refusal.reason.number() {
@@ -71,7 +75,7 @@ pub fn said(answer: Result<Outcome, Refusal>) -> &'static str {
 }
 
 // Makes the steps of a table one after another.
-pub fn follow<K: SignatureKind>(bench: &mut Bench<K>, rows: &[Row]) -> Result<(), Fail> {
+fn follow<K: SignatureKind>(bench: &mut Bench<K>, rows: &[Row]) -> Result<(), Fail> {
     for (step, word) in rows {
         check_eq(bench.make(*step), *word)?;
     }
@@ -79,7 +83,7 @@ pub fn follow<K: SignatureKind>(bench: &mut Bench<K>, rows: &[Row]) -> Result<()
 }
 
 // The octets at the front, as many as there are if the count is above that.
-pub fn first(octets: &[u8], count: usize) -> &[u8] {
+fn first(octets: &[u8], count: usize) -> &[u8] {
     if count < octets.len() {
         &octets[0..count]
     } else {
@@ -88,14 +92,14 @@ pub fn first(octets: &[u8], count: usize) -> &[u8] {
 }
 
 // A good block of watch time 100 under a kind, with the first flag octet that goes with it.
-pub fn checked<K: SignatureKind>(flag1: u8) -> Result<CheckedBlock<K>, Refusal> {
+fn checked<K: SignatureKind>(flag1: u8) -> Result<CheckedBlock<K>, Refusal> {
     let [high, low] = par_crc(&[flag1, 0x40, 0, 1, 0, 2, 0, 100]).to_be_bytes();
     let octets = [flag1, 0x40, 0, 1, 0, 2, 0, 100, high, low];
     (RawBlock { octets: &octets }).check::<K>((2, 3), (2, 3))
 }
 
 impl<K: SignatureKind> Bench<K> {
-    pub fn start(flag1: u8) -> Result<Bench<K>, Refusal> {
+    fn start(flag1: u8) -> Result<Bench<K>, Refusal> {
         Ok(Bench {
             host: Host::start(checked::<K>(flag1)?),
             device: Device::start(checked::<K>(flag1)?),
@@ -122,7 +126,7 @@ impl<K: SignatureKind> Bench<K> {
         self.host.press(press)
     }
 
-    pub fn make(&mut self, step: Step) -> &'static str {
+    fn make(&mut self, step: Step) -> &'static str {
         said(
             match step {
                 Step::HostOffer(values, wish) => self.host

@@ -2,12 +2,6 @@
 #[cfg(test)]
 mod bench;
 #[cfg(test)]
-mod edges;
-#[cfg(test)]
-mod pairs;
-#[cfg(test)]
 mod replays;
 #[cfg(test)]
 mod samples;
-#[cfg(test)]
-mod shifts;

@@ -1,9 +1,9 @@
 // A whole shift by direct calls, under each kind, with every fault at both ends.
-use crate::bench::Bench;
-use crate::bench::INTO_RUN;
-use crate::bench::Row;
-use crate::bench::Step;
-use crate::bench::follow;
+use super::Bench;
+use super::INTO_RUN;
+use super::Row;
+use super::Step;
+use super::follow;
 use kinds::C3;
 use kinds::C3Kind;
 use kinds::S3;

@@ -1,11 +1,11 @@
 // Refused calls at their edges, which change nothing; kept frames; blocks; numbers.
-use crate::bench::Bench;
-use crate::bench::INTO_RUN;
-use crate::bench::Row;
-use crate::bench::Step;
-use crate::bench::first;
-use crate::bench::follow;
-use crate::bench::said;
+use super::Bench;
+use super::INTO_RUN;
+use super::Row;
+use super::Step;
+use super::first;
+use super::follow;
+use super::said;
 use block::RawBlock;
 use kinds::S3;
 use kinds::S3Kind;

@@ -1,6 +1,6 @@
 // Lists of calls on a pair.
-use crate::bench::checked;
-use crate::bench::said;
+use super::checked;
+use super::said;
 use kinds::S3;
 use kinds::S3Kind;
 use machine::Outcome;

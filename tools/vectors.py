@@ -80,6 +80,7 @@ WORKED_FRAME = bytes.fromhex(
     "0008" "0000" "0000" "0020" "0004" "0000" "0000" "0000")
 WORKED_BLOCK = bytes.fromhex(
     "000C" "0005" "0018" "0003" "0000" "0000" "0009" "0005" "0000" "0000" "0000" "0000")
+WORKED_CHECK = 0x0F33
 
 
 def mirrored(value, bits):
@@ -216,7 +217,6 @@ def frames(kind, source):
 
 def blocks(source):
     """Check values of parameter blocks: the worked one, one octet at each place, and any eight octets."""
-    assert block_check(WORKED_BLOCK) == 0x0F33
     yield crc_line(WORKED_BLOCK)
     yield crc_line(b"")
     for place in range(8):
@@ -226,6 +226,7 @@ def blocks(source):
 
 
 def lines():
+    assert block_check(WORKED_BLOCK) == WORKED_CHECK
     source = Source(20240501)
     for vector in published():
         yield run_line(*vector)

@@ -142,7 +142,7 @@ fn compare(kind: &str, width: usize, proved: Sign, plain: Sign, all: &[u8]) -> f
     for length in [12, 123, all.len()] {
         let frames: Vec<&[u8]> = all.chunks_exact(length).collect();
         let (mut ours, mut theirs) = (f64::MAX, f64::MAX);
-        for _ in 0..40 {
+        for _ in 0..100 {
             ours = ours.min(timed(proved, &frames, width));
             theirs = theirs.min(timed(plain, &frames, width));
         }

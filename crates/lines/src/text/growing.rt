@@ -39,7 +39,7 @@ impl Text {
             return Ok(());
         }
         let ahead = needed.saturating_mul(2).max(1024);
-        let mut room = Vec::from_elem(self.room.allocator(), 0u8, ahead)?;
+        let mut room = Vec::from_elem(*self.room.allocator(), 0u8, ahead)?;
         append_at(room.as_mut_slice(), 0, self.as_slice());
         self.room = room;
         Ok(())

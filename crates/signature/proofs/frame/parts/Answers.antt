@@ -10,6 +10,6 @@ returns-then-frame-width g c crc n = fits_short g.K.SignatureKind.model crc n c.
 pub returns : goal.returns
 returns g c crc n =
     let m = g.K.SignatureKind.model in
-    let body = c.split-at.result.0.now in
-    let last = c.split-at.result.1.now in
-    ap (λ (f : List _). fits_number m crc n f) c.split-at.ensures.by_index.0 ∙ fits_append m crc n body last (omega arith)
+    let body = c.split_at.result.0.now in
+    let last = c.split_at.result.1.now in
+    ap (λ (f : List _). fits_number m crc n f) c.split_at.ensures.by_index.0 ∙ fits_append m crc n body last (omega arith)

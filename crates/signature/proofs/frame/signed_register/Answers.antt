@@ -11,9 +11,9 @@ returns g c =
     let m = g.K.SignatureKind.model in
     let n = c.args.number in
     let three = octets_numeral n (omega arith) (omega arith) (omega arith) in
-    let numbered : c.feed-all-numbered.result ≡ feed m c.args.crc (octets 3 (numeral n)) =
-    c.feed-all-numbered.ensures ∙ ap (λ (r : ℕ). m.step (m.step (m.step r n.high) n.middle) n.low) c.start.ensures
+    let numbered : c.feed_all-numbered.result ≡ feed m c.args.crc (octets 3 (numeral n)) =
+    c.feed_all-numbered.ensures ∙ ap (λ (r : ℕ). m.step (m.step (m.step r n.high) n.middle) n.low) c.start.ensures
     ∙ ap (λ (os : List ℕ). feed m c.args.crc os) (sym three) in
-    let all : c.feed-all.result ≡ signed m c.args.crc (numeral n) c.args.body.now =
-    c.feed-all.ensures ∙ ap (λ (r : ℕ). feed m r c.args.body.now) numbered in
+    let all : c.feed_all.result ≡ signed m c.args.crc (numeral n) c.args.body.now =
+    c.feed_all.ensures ∙ ap (λ (r : ℕ). feed m r c.args.body.now) numbered in
     record { register = all; signature = ap (octets m.width) all }

@@ -12,19 +12,19 @@ moved n k x os e front rest =
 
 pub returns-then-count-eq3 : goal.returns-then-count-eq3
 returns-then-count-eq3 c =
-    let os : List ℕ = c.to-be-bytes.result in
+    let os : List ℕ = c.to_be_bytes.result in
     let three : 3 ≡ c.args.count = omega arith in
     let front : get_or os 1 0 ∷ get_or os 2 0 ∷ get_or os 3 0 ∷ [] ≡ octets 3 c.args.register =
-    ap (λ (xs : List ℕ). get_or xs 1 0 ∷ get_or xs 2 0 ∷ get_or xs 3 0 ∷ []) c.to-be-bytes.ensures ∙ sym (octets_three c.args.register) in
+    ap (λ (xs : List ℕ). get_or xs 1 0 ∷ get_or xs 2 0 ∷ get_or xs 3 0 ∷ []) c.to_be_bytes.ensures ∙ sym (octets_three c.args.register) in
     let both = moved 3 c.args.count c.args.register (get_or os 1 0 ∷ get_or os 2 0 ∷ get_or os 3 0 ∷ 0 ∷ []) three front refl in
     record { octets = both.0; rest = both.1 }
 
 pub returns-else-count-eq3 : goal.returns-else-count-eq3
 returns-else-count-eq3 c =
-    let os : List ℕ = c.to-be-bytes.result in
+    let os : List ℕ = c.to_be_bytes.result in
     let four : 4 ≡ c.args.count = omega arith in
     let front : get_or os 0 0 ∷ get_or os 1 0 ∷ get_or os 2 0 ∷ get_or os 3 0 ∷ [] ≡ octets 4 c.args.register =
-    ap (λ (xs : List ℕ). get_or xs 0 0 ∷ get_or xs 1 0 ∷ get_or xs 2 0 ∷ get_or xs 3 0 ∷ []) c.to-be-bytes.ensures
+    ap (λ (xs : List ℕ). get_or xs 0 0 ∷ get_or xs 1 0 ∷ get_or xs 2 0 ∷ get_or xs 3 0 ∷ []) c.to_be_bytes.ensures
     ∙ sym (octets_four c.args.register) in
     let both = moved 4 c.args.count c.args.register (get_or os 0 0 ∷ get_or os 1 0 ∷ get_or os 2 0 ∷ get_or os 3 0 ∷ []) four front refl in
     record { octets = both.0; rest = both.1 }

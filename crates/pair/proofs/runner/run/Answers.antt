@@ -13,11 +13,11 @@ use Rattle.pair.proofs.runner.run.Goals as goal
 pub loop-call-preserved : goal.loop-call-preserved
 loop-call-preserved g c =
     let i = c.loop-call.invariant in (
-      c.call.ensures.host-setup ∙ i.0,
-      c.call.ensures.device-setup ∙ i.1,
+      c.call.ensures.host_setup ∙ i.0,
+      c.call.ensures.device_setup ∙ i.1,
       λ one same.
           one_turn g.H.SignatureKind.model c.start-pair.result.host.setup c.loop-call.pair.host.setup c.args.buffer.now c.args.calls.now c.loop-call.call-index _ (ends c.loop-call.pair) (ends c.call.new.self) c.call.result c.loop-call.buffer c.call.new.buffer (vec_items c.loop-call.answers) (vec_items c.push.new.self) c.loop-call-test.true c.loop-call.auto.buffer i.0 (i.2 one same)
-          (λ outward inward. c.call.ensures.made outward inward one (i.1 ∙ same ∙ sym i.0)) c.in-ok-push.ensures.items,
+          (λ outward inward. c.call.ensures.made outward inward one (i.1 ∙ same ∙ sym i.0)) c.in_ok-push.ensures.items,
     )
 
 pub returns : goal.returns

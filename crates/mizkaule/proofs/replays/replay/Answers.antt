@@ -7,12 +7,12 @@ use Rattle.mizkaule.proofs.replays.replay.Goals as goal
 
 pub returns-then-text-size : goal.returns-then-text-size
 returns-then-text-size c =
-    let t : List ℕ = c.as-bytes-said.result.now in
-    no_room t (subst (λ (u : List ℕ). Transcribes c.args.book.now u) (sym c.as-bytes-said.ensures) c.in-Ok.ensures)
+    let t : List ℕ = c.as_bytes-said.result.now in
+    no_room t (subst (λ (u : List ℕ). Transcribes c.args.book.now u) (sym c.as_bytes-said.ensures.value) c.in-Ok.ensures)
     (omega (arith, c.if-text-size.true)) (ap (λ e. TurnedDown e (length t)) c.at.ensures) refl
 
 pub returns : goal.returns
 returns c =
-    let t : List ℕ = c.as-bytes-said.result.now in
-    printed t (subst (λ (u : List ℕ). Transcribes c.args.book.now u) (sym c.as-bytes-said.ensures) c.in-Ok.ensures)
-    (omega (arith, c.if-text-size.false)) refl (c.write-front.ensures.whole (omega (arith, c.if-text-size.false)))
+    let t : List ℕ = c.as_bytes-said.result.now in
+    printed t (subst (λ (u : List ℕ). Transcribes c.args.book.now u) (sym c.as_bytes-said.ensures.value) c.in-Ok.ensures)
+    (omega (arith, c.if-text-size.false)) refl (c.write_front.ensures.whole (omega (arith, c.if-text-size.false)))

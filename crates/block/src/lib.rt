@@ -1,4 +1,6 @@
 // The F-parameter block: its check value, its checks, and what starts an end.
+#![tactic(auto)]
+
 mod block;
 mod par;
 mod setup;

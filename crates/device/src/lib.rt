@@ -1,4 +1,6 @@
 // The device end: it takes the host's frames and offers answers to them.
+#![tactic(auto)]
+
 ghost use Rattle.std.specs.Prelude.{◌≡◌};
 ghost use Rattle.signature.specs.Numbers.{numeral};
 ghost use Rattle.machine.specs.DeviceEnd.{device_started};

@@ -1,5 +1,5 @@
 -- Known figures of the definitions, as one finite check.
-use Rattle.std.specs.Prelude.{ℕ, Bool, ◌&&◌, List, [], ◌∷◌, ◌==◌}
+use Rattle.std.specs.Prelude.{Bool, ◌&&◌, [], ◌∷◌, ◌==◌}
 use Rattle.std.specs.Str.{bytes_eq}
 use Rattle.signature.specs.Kind.{signature, fits_number}
 use Rattle.kinds.specs.Kinds.{s3, s4, c3}

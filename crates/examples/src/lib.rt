@@ -1,4 +1,6 @@
 // Known figures, proved of the definitions by one finite check.
+#![tactic(auto)]
+
 ghost use Rattle.std.specs.Prelude.{◌≡◌, true};
 ghost use Rattle.examples.specs.Known.{known};
 

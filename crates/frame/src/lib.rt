@@ -1,4 +1,6 @@
 // Frames in fixed memory, their control and status bits, and how one is composed.
+#![tactic(auto)]
+
 mod bits;
 pub mod control;
 mod frame;

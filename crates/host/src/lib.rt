@@ -1,4 +1,6 @@
 // The host end and the operator's button.
+#![tactic(auto)]
+
 mod button;
 mod host;
 

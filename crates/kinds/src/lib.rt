@@ -1,4 +1,6 @@
 // The signature kinds S3 and S4, which follow the bit rule from tables, and the bench kind C3.
+#![tactic(auto)]
+
 mod rotated;
 mod ruled;
 mod tables;

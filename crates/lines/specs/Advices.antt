@@ -1,6 +1,5 @@
 -- What to tell a person about octets that are no book, or about a book that breaks off.
-use Rattle.std.specs.Prelude.{ℕ, Bool, true, false, cond, ◌&&◌, List, [], ◌∷◌, ◌++◌, length, Some, None, codes, decimal, Option, ◌==◌, nat_le, nat_lt}
-use Rattle.refusal.specs.declared.reason.Reason.{Reason}
+use Rattle.std.specs.Prelude.{ℕ, Bool, cond, ◌&&◌, List, [], ◌∷◌, ◌++◌, length, Some, None, codes, decimal, Option, ◌==◌, nat_le, nat_lt}
 use Rattle.refusal.specs.declared.reason.Reason.TheVariants.{BookHead}
 use Rattle.refusal.specs.declared.refused.Refusal.{Refusal}
 use Rattle.refusal.specs.Reasons.{number_of}

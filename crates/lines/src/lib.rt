@@ -1,4 +1,6 @@
 // The lines that are printed of a book, and what is told to a person beside them.
+#![tactic(auto)]
+
 mod advice;
 mod digits;
 mod letters;

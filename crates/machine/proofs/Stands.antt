@@ -7,7 +7,7 @@ use Rattle.signature.specs.Kind.{Model, fits_number}
 use Rattle.signature.specs.Laws.{Laws}
 use Rattle.signature.proofs.Given.{one_number}
 use Rattle.machine.specs.declared.outcome.Outcome.{Outcome}
-use Rattle.machine.specs.declared.outcome.Outcome.TheVariants.{Waiting, Process, FailSafe}
+use Rattle.machine.specs.declared.outcome.Outcome.TheVariants.{Process, FailSafe}
 use Rattle.machine.specs.declared.phase.DevicePhase.{DevicePhase}
 use Rattle.block.specs.declared.setup.Setup.{Setup}
 use Rattle.machine.specs.Frames.{FV_activated, activate_FV, has, zeros}

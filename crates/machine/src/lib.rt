@@ -1,4 +1,6 @@
 // The coupler as one machine: the outcomes, phases and causes that both ends share, and the safety statement.
+#![tactic(auto)]
+
 mod judged;
 mod outcome;
 mod phase;

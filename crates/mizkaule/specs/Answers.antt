@@ -2,7 +2,6 @@
 use Rattle.std.specs.Prelude.{ℕ}
 use Rattle.refusal.specs.declared.reason.Layer.{Layer}
 use Rattle.refusal.specs.declared.reason.Layer.TheVariants.{Block, End, Book}
-use Rattle.refusal.specs.declared.refused.Refusal.{Refusal}
 use Rattle.refusal.specs.Reasons.{number_of, layer_of}
 use Rattle.mizkaule.specs.declared.answer.Answer.{Answer}
 use Rattle.mizkaule.specs.declared.answer.Verdict.{Verdict}

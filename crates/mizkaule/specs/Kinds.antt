@@ -1,5 +1,5 @@
 -- Which signature kind a figure names, and what is judged, signed and fitted under it.
-use Rattle.std.specs.Prelude.{ℕ, ◌^◌, Bool, cond, List, [], Some, None, Ok, Err, Option, Result, ◌==◌, nat_lt}
+use Rattle.std.specs.Prelude.{ℕ, ◌^◌, Bool, cond, List, [], Ok, Err, Result, ◌==◌, nat_lt}
 use Rattle.refusal.specs.declared.reason.Reason.TheVariants.{BufferLength}
 use Rattle.refusal.specs.declared.refused.Refusal.{Refusal}
 use Rattle.refusal.specs.Refusals.{refusal_at}

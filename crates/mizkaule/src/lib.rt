@@ -1,4 +1,6 @@
 // The coupler for C: judging a block, signing, fitting, and replaying a book into the caller's buffer.
+#![tactic(auto)]
+
 mod answer;
 mod by_kind;
 mod calls;

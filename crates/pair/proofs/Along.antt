@@ -12,7 +12,7 @@ use Rattle.machine.specs.Calls.{happens, step, after}
 use Rattle.machine.specs.Calls as machine
 use Rattle.pair.specs.declared.call.Call.{Call}
 use Rattle.pair.specs.Callings.{call_of, hand_after}
-use Rattle.pair.specs.Views.{Ends, blank_ends, joined_by}
+use Rattle.pair.specs.Views.{Ends, joined_by}
 use Rattle.pair.specs.Made.{Made, At}
 use Rattle.pair.specs.Runs.{Progress, none, onward, along, answers_to, buffer_after, Runs}
 

@@ -1,4 +1,6 @@
 // A host and a device end with a button, and lists of calls on them.
+#![tactic(auto)]
+
 mod call;
 mod pair;
 mod runner;

@@ -1,4 +1,6 @@
 // Why a call is turned down, and where: the one error type of every layer.
+#![tactic(auto)]
+
 mod reason;
 mod refused;
 

@@ -1,4 +1,6 @@
 // Reads a shift book from standard input, and prints its transcript.
+#![tactic(auto)]
+
 use std::io::Read;
 use transcript::transcript;
 

@@ -1,4 +1,6 @@
 // Signing for C and Rust: numbers pass as themselves, and octets as a pointer and a length.
+#![tactic(auto)]
+
 ghost use Rattle.std.specs.Prelude.{cond, ◌≡◌, ◌%◌, ◌^◌, eqb, length};
 ghost use Rattle.signature.specs.Kind.{signature};
 ghost use Rattle.signature.specs.Numbers.{numeral};

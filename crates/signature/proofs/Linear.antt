@@ -1,5 +1,5 @@
 -- The bit rule is linear: xored registers and bits leave xored registers. Bits may be fed in two parts.
-use Rattle.std.proofs.Common.{◌≡◌, ℕ, zero, suc, ◌+◌, ◌-◌, ◌*◌, ◌/◌, ◌%◌, ◌^◌, ◌<◌, sym, refl, ap, ◌∙◌, ap₂, add-zero, add-suc, mod-lt, one-mul, zero-mul, div-one, arith, pow_pos, shr-shr}
+use Rattle.std.proofs.Common.{◌≡◌, ℕ, zero, suc, ◌+◌, ◌*◌, ◌/◌, ◌%◌, ◌^◌, ◌<◌, sym, refl, ap, ◌∙◌, ap₂, add-zero, add-suc, mod-lt, one-mul, zero-mul, div-one, arith, pow_pos, shr-shr}
 use lib.Bits.{bit_xor, xor_lt, xor_mod, xor_shr, block_half, block_odd}
 use Rattle.signature.specs.Rule.{bit_step, feed_bits}
 use Rattle.signature.proofs.Xor.{xor4, xor_twice, bits_times, bit_picks}

@@ -1,5 +1,5 @@
 -- The octets of a number one by one.
-use Rattle.std.proofs.Common.{◌≡◌, ℕ, zero, suc, ◌+◌, ◌/◌, ◌%◌, ◌^◌, ◌<◌, [], ◌∷◌, ◌++◌, sym, ap, ◌∙◌, mul_comm, pow-suc, div-one, arith}
+use Rattle.std.proofs.Common.{◌≡◌, ℕ, zero, suc, ◌/◌, ◌%◌, ◌^◌, ◌<◌, [], ◌∷◌, ◌++◌, sym, ap, ◌∙◌, mul_comm, pow-suc, div-one, arith}
 use native.Mathlib.Nat.{div-div-eq-div-mul}
 use Rattle.signature.specs.Kind.{octets}
 use Rattle.signature.specs.declared.number.Number.{Number}

@@ -1,4 +1,6 @@
 // Signature kinds: the trait with its laws, and what a frame's signature is.
+#![tactic(auto)]
+
 mod frame;
 mod kind;
 mod number;

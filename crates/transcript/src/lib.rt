@@ -1,4 +1,6 @@
 // The text that the program prints of a book: its replay, line by line.
+#![tactic(auto)]
+
 mod bench;
 mod calls;
 mod line;

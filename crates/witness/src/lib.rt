@@ -1,4 +1,6 @@
 // Runs that show the safety statement to say something: process values are handed out, and as old as they may be.
+#![tactic(auto)]
+
 ghost use Rattle.kinds.specs.Kinds.{c3, s3};
 ghost use Rattle.signature.specs.Laws.{Laws};
 ghost use Rattle.witness.specs.Runs.{ReachedByC3, ReachedByS3};

@@ -1,5 +1,5 @@
 -- Each digit stands before those after it.
-use Rattle.std.proofs.Common.{◌≡◌, ℕ, ◌+◌, ◌-◌, ◌%◌, false, drop, sym, ap, ◌∙◌, arith, length-set, drop_of_length-le}
+use Rattle.std.proofs.Common.{◌+◌, ◌-◌, ◌%◌, false, ap, ◌∙◌, arith, length-set, drop_of_length-le}
 use Rattle.std.specs.Fmt.{digits_onto}
 use Rattle.lines.proofs.Figures.{begun, goes_on, ends}
 use Rattle.lines.proofs.digits.spell.Goals as goal

@@ -1,5 +1,5 @@
 -- The text is the transcript's.
-use Rattle.std.proofs.Common.{◌≡◌, ℕ, List, length, sym, refl, ap, subst, arith}
+use Rattle.std.proofs.Common.{ℕ, List, length, sym, refl, ap, subst, arith}
 use Rattle.transcript.specs.Transcripts.{Transcribes}
 use Rattle.mizkaule.specs.declared.answer.Verdict.TheVariants.{TurnedDown}
 use Rattle.mizkaule.specs.Replays.{printed, no_room}

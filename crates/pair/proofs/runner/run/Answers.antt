@@ -1,12 +1,10 @@
 -- Each call takes the run on with the machine, and the run is safe because the statement holds.
-use Rattle.std.proofs.Common.{◌≡◌, List, vec_items, sym, refl, ap, ◌∙◌, subst}
+use Rattle.std.proofs.Common.{List, vec_items, sym, ◌∙◌, subst}
 use Rattle.std.proofs.lemmas.List.{take_all}
 use Rattle.block.specs.declared.setup.Setup.{Setup}
 use Rattle.machine.specs.Statement.{Checked}
-use Rattle.machine.proofs.Stands.{safe}
 use Rattle.pair.specs.declared.call.Call.{Call}
-use Rattle.pair.specs.Runs.{Runs}
-use Rattle.pair.specs.Views.{Ends, ends}
+use Rattle.pair.specs.Views.{ends}
 use Rattle.pair.proofs.Along.{Going, one_turn, ran}
 use Rattle.pair.proofs.runner.run.Goals as goal
 

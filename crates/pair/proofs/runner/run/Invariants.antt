@@ -1,6 +1,6 @@
 -- The ends, the answers and the buffer so far are the machine's after the calls before this one.
 use Rattle.std.proofs.Common.{◌≡◌, take, vec_items}
-use Rattle.pair.specs.Views.{blank_ends, ends}
+use Rattle.pair.specs.Views.{ends}
 use Rattle.pair.proofs.Along.{Going}
 use Rattle.pair.proofs.runner.run.Given as goal
 

@@ -1,5 +1,5 @@
 -- At most 255 octets of data leave room for one more.
-use Rattle.std.proofs.Common.{◌≡◌, ℕ, ◌≤◌, List, [], ◌∷◌, ◌++◌, length, take, ap, ◌∙◌, arith, rules}
+use Rattle.std.proofs.Common.{◌≡◌, ℕ, List, [], ◌∷◌, ◌++◌, length, take, ap, ◌∙◌, arith}
 use Rattle.std.proofs.lemmas.List.{take_all, length_push}
 use Rattle.frame.specs.Held.{framed}
 use Rattle.frame.proofs.frame.Frame.unsigned.Goals as goal

@@ -1,7 +1,7 @@
 -- The first fields of a line are those of one vector only.
-use Rattle.std.proofs.Common.{◌≡◌, ℕ, List, sym, refl, ◌∙◌, arith}
+use Rattle.std.proofs.Common.{◌≡◌, ℕ, List, refl, arith}
 use Rattle.std.specs.Str.Iter.{LacksByte}
-use Rattle.std.specs.List.{AllByRecursion as All}
+use Rattle.std.specs.List.{AllByRecursion}
 use Rattle.std.proofs.ByRecursion.{All-get_or}
 use Rattle.signature.specs.Kind.{octets}
 use Rattle.signature.specs.Numbers.{numeral}
@@ -17,7 +17,7 @@ use Rattle.vectors.proofs.Cuts.{hex_lacks, same_cut}
 abbrev NoSpace : ℕ → Type 0
 NoSpace x = x ≡ 32 → ⊥
 
-word_lacks : (word : List ℕ) → All NoSpace word → LacksByte 32 word
+word_lacks : (word : List ℕ) → AllByRecursion NoSpace word → LacksByte 32 word
 word_lacks word all k h = All-get_or NoSpace word k 0 h all
 
 form_lacks : (a : Asked) → LacksByte 32 (form_word a)

@@ -1,4 +1,6 @@
 // Reads the table of vectors from standard input, and prints each line that does not agree with the code.
+#![tactic(auto)]
+
 mod checks;
 mod table;
 mod verdict;

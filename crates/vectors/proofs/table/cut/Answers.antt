@@ -6,4 +6,4 @@ use Rattle.vectors.proofs.table.cut.Goals as goal
 
 pub returns : goal.returns
 returns c =
-    cut_told _ c.split-once.result (split_parts 32 c.args.text.now c.split-once.result c.split-once.ensures.cases (omega arith))
+    cut_told _ c.split_once.result (split_parts 32 c.args.text.now c.split_once.result c.split_once.ensures.cases (omega arith))

@@ -7,8 +7,8 @@ use Rattle.vectors.proofs.Cuts.{same_cut, hex_lacks}
 use Rattle.vectors.proofs.Hexes.{as_many}
 use Rattle.vectors.proofs.table.read_figure.Goals as goal
 
-pub returns-in-default-2 : goal.returns-in-default-2
-returns-in-default-2 c x rest e =
+pub returns-in_default-2 : goal.returns-in_default-2
+returns-in_default-2 c x rest e =
     let both = c.in-Some.ensures in
     let same = same_cut c.args.text.now c.in-Some.field.now c.in-Some.rest.now both.0 both.1 (hex_text (octets c.args.count x)) rest e (hex_lacks _) in
     search rules

@@ -7,8 +7,8 @@ use Rattle.vectors.specs.Lines.{spaced}
 use Rattle.vectors.proofs.Cuts.{same_cut, hex_lacks}
 use Rattle.vectors.proofs.table.read_signing.Goals as goal
 
-pub returns-in-default-2 : goal.returns-in-default-2
-returns-in-default-2 c s rest e =
+pub returns-in_default-2 : goal.returns-in_default-2
+returns-in_default-2 c s rest e =
     let text = c.args.text.now in
     let after = c.in-Some.after.now in
     let told : text ≡ spaced (hex_text (octets 2 c.in-Some.crc)) after = search rules in

@@ -1,24 +1,20 @@
 -- One octet more, for which there is room.
-use Rattle.std.proofs.Common.{◌≡◌, ℕ, ◌^◌, ◌<◌, List, [], ◌∷◌, ◌++◌, length, take, sym, ap, ◌∙◌, subst, arith, rules}
-use Rattle.signature.specs.Kind.{octets}
-use Rattle.std.proofs.lemmas.List.{take_all, take_more}
+use Rattle.std.proofs.Common.{ℕ, ◌<◌, List, [], ◌∷◌, ◌++◌, take, sym, ap, ◌∙◌, arith, rules}
+use Rattle.std.proofs.lemmas.List.{take_more}
 use Rattle.vectors.proofs.Figures.{below_more, octets_more, octets_none, room}
 use Rattle.vectors.proofs.table.value.Goals as goal
 
 pub loop-o-init : goal.loop-o-init
 loop-o-init c = (octets_none 0, omega arith)
 
-pub overflow-mul-x : goal.overflow-mul-x
-overflow-mul-x c = let r = room c.loop-o.o-index c.loop-o.x (omega arith) c.loop-o.invariant.1 in search rules
-
-pub overflow-add-x : goal.overflow-add-x
-overflow-add-x c = let r = room c.loop-o.o-index c.loop-o.x (omega arith) c.loop-o.invariant.1 in search rules
+pub overflow_mul-x : goal.overflow_mul-x
+overflow_mul-x c = let r = room c.loop-o.o-index c.loop-o.x (omega arith) c.loop-o.invariant.1 in search rules
 
 pub loop-o-preserved : goal.loop-o-preserved
 loop-o-preserved c =
     let i : ℕ = c.loop-o.o-index in
     let o : ℕ = c.from.result in
-    let small : o < 256 = omega (arith, c.type-inv.spelt i) in
+    let small : o < 256 = omega (arith, c.type_inv.spelt i) in
     let more = take_more c.args.spelt.now i 0 c.loop-o-test.true in (
       octets_more i c.loop-o.x o small
           ∙ ap (λ (os : List ℕ). os ++ (o ∷ [])) c.loop-o.invariant.0
@@ -26,12 +22,3 @@ loop-o-preserved c =
           ∙ sym more,
       below_more i c.loop-o.x o c.loop-o.invariant.1 small,
     )
-
-pub returns : goal.returns
-returns c =
-    let n : c.loop-o.o-index ≡ length c.args.spelt.now = omega arith in
-    record {
-      spelt =
-          ap (λ (i : ℕ). octets i c.loop-o.x) (sym n) ∙ c.loop-o.invariant.0 ∙ take_all c.loop-o.o-index c.args.spelt.now c.loop-o-test.false;
-      below = subst (λ (i : ℕ). c.loop-o.x < 256 ^ i) n c.loop-o.invariant.1;
-    }

@@ -56,7 +56,7 @@ fn the_worked_book_has_five_records(rt: HostRuntime) -> Result<(), Fail> {
 fn a_body_is_a_part_of_the_book(rt: HostRuntime) -> Result<(), Fail> {
     let mut book = Book::open(b"\x01\x00\x03\x06\x01\x2c")?;
     let placed = book.next().ok_or("no record")??;
-    assert_eq!(rt; placed.record.body(), &[1, 44]);
+    assert_eq!(rt; placed.record.body(), [1, 44].as_slice());
     Ok(())
 }
 

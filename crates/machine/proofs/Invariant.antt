@@ -1,7 +1,7 @@
 -- The invariant of a pair. The ends stand at indices: how many numbers each has seen begin since the host's last start
 -- or fault. It says where the ends stand, which index and age each frame has, and that process values follow a press.
 use Rattle.std.proofs.Common.{◌≡◌, ℕ, ◌+◌, ◌-◌, ◌^◌, ◌<◌, ◌≤◌, Bool, true, false, List, Some, None, Option}
-use Rattle.std.specs.List.{AllByRecursion as All}
+use Rattle.std.specs.List.{AllByRecursion}
 use Rattle.signature.specs.Kind.{Model, fits_number}
 use Rattle.block.specs.declared.setup.Setup.{Setup}
 use Rattle.machine.specs.Frames.{activate_FV, FV_activated, cons_nr_R, has, data_of}
@@ -102,8 +102,8 @@ pub record Inv (m : Model) (s : Setup) (tr : List Event) (H : HostState) (D : De
   pub d : ℕ
   pub joined : Bool
   pub stand : Where s H D h d joined
-  pub outs : All (Outward m s tr H.kept (device_runs D.phase) h d joined) out
-  pub ins : All (Inward m s tr H.ticks h d joined) inn
+  pub outs : AllByRecursion (Outward m s tr H.kept (device_runs D.phase) h d joined) out
+  pub ins : AllByRecursion (Inward m s tr H.ticks h d joined) inn
   pub h_kept : (f : List ℕ) → H.kept ≡ Some f → HostKept m s tr D.ticks (device_runs D.phase) h d f
   pub d_kept : (f : List ℕ) → D.kept ≡ Some f → DeviceKept m s tr H.ticks h d joined f
   pub h_answer : (f : List ℕ) → H.answer ≡ Some f → device_fv s f ≡ false → Carried host (device_data_of s f) (s.watch + H.ticks) tr

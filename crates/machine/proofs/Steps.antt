@@ -1,6 +1,6 @@
 -- The small steps: what each change of an end or a line does to the invariant.
 use Rattle.std.proofs.Common.{◌≡◌, ℕ, ◌+◌, ◌-◌, ◌<◌, ◌≤◌, Bool, true, false, cond, ◌&&◌, eqb, List, [], ◌∷◌, Some, None, Option, sym, refl, ap, ◌∙◌, subst, inl, inr, arith}
-use Rattle.std.specs.List.{AllByRecursion as All}
+use Rattle.std.specs.List.{AllByRecursion}
 use Rattle.std.proofs.ByRecursion.{All-weaker}
 use Rattle.std.proofs.lemmas.Bool.{true≢false, false≢true, both_ways, cases_Bool, cases_lt, and_parts, and_cases, eqb-true, eqb-false}
 use Rattle.signature.specs.Kind.{Model}
@@ -165,7 +165,7 @@ module _ (m : Model) (s : Setup) {tr : List Event} {H : HostState} {D : DeviceSt
 
   -- a frame of a number above 0 has been handed to the device
   pub thinned : (b : Bool) → Inv m s tr H D out inn → Inv m s tr H D (cond b (without_restarts out) out) inn
-  thinned b i = let o : All (Outward m s tr H.kept (device_runs D.phase) i.h i.d i.joined) (cond b (without_restarts out) out) = all_thin _ b out i.outs in search
+  thinned b i = let o : AllByRecursion (Outward m s tr H.kept (device_runs D.phase) i.h i.d i.joined) (cond b (without_restarts out) out) = all_thin _ b out i.outs in search
 
   -- the host begins a number
   pub begins : (i : Inv m s tr H D out inn) → i.joined ≡ true → i.d ≡ i.h → (ph : HostPhase) → host_runs ph ≡ true → (n p : ℕ) (t : Bool) (a : Option (List ℕ)) → n ≡ num (i.h + 1) → p ≡ num i.h → (i.h ≡ 0 → a ≡ None)
@@ -368,7 +368,7 @@ module _ (m : Model) (s : Setup) {tr : List Event} {H : HostState} {D : DeviceSt
         old_at = λ x j. omega (arith, w.near j);
         pressed = o.pressed;
       } in
-      let all : All (Outward m s tr H.kept (device_runs D.phase) i.h i.d i.joined) (record { frame = f; number = H.number; begun = 0 } ∷ out) = (e, i.outs) in
+      let all : AllByRecursion (Outward m s tr H.kept (device_runs D.phase) i.h i.d i.joined) (record { frame = f; number = H.number; begun = 0 } ∷ out) = (e, i.outs) in
       search
 
   -- the device composes an answer and keeps it
@@ -394,7 +394,7 @@ module _ (m : Model) (s : Setup) {tr : List Event} {H : HostState} {D : DeviceSt
         aged = o.aged;
         mute = quiet;
       } in
-      let all : All (Inward m s tr H.ticks i.h i.d i.joined) (record { frame = f; number = n; begun = 0 } ∷ inn) = (e, i.ins) in
+      let all : AllByRecursion (Inward m s tr H.ticks i.h i.d i.joined) (record { frame = f; number = n; begun = 0 } ∷ inn) = (e, i.ins) in
       search
 
   -- a press is taken

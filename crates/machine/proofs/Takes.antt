@@ -1,6 +1,6 @@
 -- A frame handed to an end keeps the invariant.
 use Rattle.std.proofs.Common.{◌≡◌, ℕ, ◌+◌, Bool, true, false, cond, not, ◌&&◌, eqb, ◌⊎◌, List, [], ◌∷◌, is_some, Some, None, Ok, Option, sym, refl, ap, ◌∙◌, subst, inl, inr, arith, lit<}
-use Rattle.std.specs.List.{AllByRecursion as All}
+use Rattle.std.specs.List.{AllByRecursion}
 use Rattle.std.proofs.ByRecursion.{All-weaker}
 use Rattle.std.proofs.lemmas.Bool.{false≢true, both_ways, cases_Bool, cond-true, cond-false, and_parts, and_cases, not-false}
 use Rattle.refusal.specs.declared.reason.Reason.{Reason}
@@ -75,7 +75,7 @@ module _ (m : Model) (s : Setup) {tr : List Event} {H : HostState} {D : DeviceSt
 
   -- what may be handed in, once it is not refused
   abbrev Brought : HostPhase → Type 0
-  Brought p = On f inn ⊎ All (λ n. host_fits m s n f ≡ false) (host_held_in p H)
+  Brought p = On f inn ⊎ AllByRecursion (λ n. host_fits m s n f ≡ false) (host_held_in p H)
 
   rests : host_runs H.phase ≡ false → Brought HostPhase.Restart → TakenByHost (host_take_says HostPhase.Restart (host_judged_in HostPhase.Restart m s H f)) (host_taken_in HostPhase.Restart (host_judged_in HostPhase.Restart m s H f) H f)
   unfolding TakenByHost
@@ -123,7 +123,7 @@ module _ (m : Model) (s : Setup) {tr : List Event} {H : HostState} {D : DeviceSt
           let on : On f inn = elim b [ inl x ↦ x | inr x ↦ absurd (both_ways (host_fits m s H.number f) x.0 fits) ] in
           advances on r fits
 
-  pub handed_to_host : On f inn ⊎ ((refused (host_take_answer m s H f) ≡ true) ⊎ All (λ n. host_fits m s n f ≡ false) (host_held_against H))
+  pub handed_to_host : On f inn ⊎ ((refused (host_take_answer m s H f) ≡ true) ⊎ AllByRecursion (λ n. host_fits m s n f ≡ false) (host_held_against H))
       → Inv m s (event (to_host f) (host_take_answer m s H f) [] ∷ tr) (host_take_next m s H f) D (host_changed (host_take_answer m s H f) out) (host_changed (host_take_answer m s H f) inn)
   unfolding TakenByHost
   handed_to_host allowed = by_option P (host_take_refused m s f) accepts (λ e _. idle m s _ refl refl refl refl i)
@@ -180,7 +180,7 @@ module _ (m : Model) (s : Setup) {tr : List Event} {H : HostState} {D : DeviceSt
       let id : o.index ≡ i'.d + 1 = num_apart o.index (i'.d + 1) (omega arith) (omega arith) (sym same) in
       let hd : i'.h ≡ i'.d + 1 = omega arith in
       let kf : H.kept ≡ Some f = o.current (omega arith) ∙ ap Some fr in
-      let above : All (λ x. x.frame ≡ f → x.number ≡ 0 → ⊥) out =
+      let above : AllByRecursion (λ x. x.frame ≡ f → x.number ≡ 0 → ⊥) out =
       All-weaker _ _ (λ e' o' x z. let z1 : i'.d + 1 ≡ 0 = num_none (i'.d + 1) (o'.frame.composed.only (num (i'.d + 1)) (num_small (i'.d + 1)) (rw x fits') ∙ sym o'.number ∙ z) in omega arith) out i'.outs in
       subst (λ b. Inv m s (ev ∷ tr) H (device_advanced D f) (cond b (without_restarts out) out) inn) (sym (numbered_on f out above on)) (moves m s i' f jt hd kf)
 

@@ -1,6 +1,6 @@
 -- Lists of calls on a blank pair, what each call leads to, and which lists the lines allow. Lists have the newest first.
 use Rattle.std.specs.Prelude.{◌≡◌, ℕ, Bool, true, false, ◌⊎◌, List, [], ◌∷◌}
-use Rattle.std.specs.List.{AllByRecursion as All}
+use Rattle.std.specs.List.{AllByRecursion}
 use Rattle.signature.specs.Kind.{Model}
 use Rattle.signature.specs.Laws.{Octets}
 use Rattle.machine.specs.declared.phase.Cause.TheVariants.{Start}
@@ -119,7 +119,7 @@ Allowed m s p (to_device f) =
     On f p.outward ⊎ ((refused (device_take_answer m s p.device f) ≡ true) ⊎ (device_fits m s (device_held_against s p.device f) f ≡ false))
 Allowed m s p (device_offer values flags room) = Octets values
 Allowed m s p (to_host f) =
-    On f p.inward ⊎ ((refused (host_take_answer m s p.host f) ≡ true) ⊎ All (λ n. host_fits m s n f ≡ false) (host_held_against p.host))
+    On f p.inward ⊎ ((refused (host_take_answer m s p.host f) ≡ true) ⊎ AllByRecursion (λ n. host_fits m s n f ≡ false) (host_held_against p.host))
 Allowed m s p (host_ticks n) = Unit {0}
 Allowed m s p (device_ticks n) = Unit {0}
 Allowed m s p (button reading) = Unit {0}

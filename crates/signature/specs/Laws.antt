@@ -1,10 +1,10 @@
 -- The laws that every signature kind keeps.
 use Rattle.std.specs.Prelude.{◌≡◌, ℕ, ◌+◌, ◌-◌, ◌*◌, ◌/◌, ◌%◌, ◌^◌, ◌<◌, ◌≤◌, true, ◌⊎◌, List, length, ◌≢◌, slice_index}
-use Rattle.std.specs.List.{AllByRecursion as All}
+use Rattle.std.specs.List.{AllByRecursion}
 use Rattle.signature.specs.Kind.{Model, feed, octets, fits_number}
 
 abbrev pub Octets : List ℕ → Type 0
-Octets os = All (λ o. o < 256) os
+Octets os = AllByRecursion (λ o. o < 256) os
 
 -- how many registers of n octets there are
 abbrev pub registers : ℕ → ℕ

@@ -62,7 +62,7 @@ fn a_list_of_calls(rt: HostRuntime) -> Result<(), Fail> {
     let mut buffer = [7u8; 9];
     let answers = run(rt.alloc(), blocks, &calls, &mut buffer)?;
     same_words(&rt, &answers, &words);
-    assert_eq!(rt; &buffer[0..4], &[0, 0, 0, 0x12]);
-    assert_eq!(rt; &buffer[7..9], &[7, 7]);
+    assert_eq!(rt; &buffer[0..4], [0, 0, 0, 0x12].as_slice());
+    assert_eq!(rt; &buffer[7..9], [7, 7].as_slice());
     Ok(())
 }

@@ -1,17 +1,28 @@
-// Reads a shift book from standard input, and prints its transcript.
+// Reads a shift book from standard input, and prints its transcript; what a person should know of it
+// goes to standard error.
 #![tactic(auto)]
 
-use std::io::Read;
+mod ending;
+
+use ending::ending;
+use lines::Advice;
+use std::io::{IsTerminal, Read};
 use transcript::transcript;
 
-// One octet more than the largest book has, so that a larger one is seen to be larger.
-const ENOUGH: u64 = 65_536;
+// Twice as many octets as a book may have: whether they are too many is for the library to say.
+const ENOUGH: u64 = 131_072;
 
 fn run(rt: &HostRuntime) -> anyhow::Result<()> {
+    if rt.stdin().is_terminal() {
+        eprintln!(rt; "shiftbook: waiting for a shift book; to read a file: shiftbook < FILE")?;
+    }
     let mut octets = Vec::new(rt.alloc());
     rt.stdin().take(ENOUGH).read_to_end(&mut octets)?;
     let text = transcript(rt.alloc(), &octets)?;
     rt.print(text)?;
+    if let Some(advice) = Advice::on(&octets, ending(&octets)) {
+        eprintln!(rt; "shiftbook: {advice}")?;
+    }
     Ok(())
 }
 

@@ -7,7 +7,7 @@ from pathlib import Path
 
 ROOT = Path(sys.argv[1] if len(sys.argv) > 1 else ".")
 TOKEN = re.compile(r"(?<![\w'·-])[^\W\d](?:[\w']|-(?=[\w']))*")
-DEFINED = re.compile(r"^(?:  )?(?:abbrev +|unfoldable +)*(?:pub +)?(?:abbrev +|unfoldable +)*(?:pub +)?([^\W\d][\w'-]*) *:(?!=)(.*(?:\n {4,}.*)*)", re.M)
+DEFINED = re.compile(r"^(?:  |    )?(?:abbrev +|unfoldable +)*(?:pub +)?(?:abbrev +|unfoldable +)*(?:pub +)?([^\W\d][\w'-]*) *:(?!=)(.*(?:\n {4,}.*)*)", re.M)
 FIELD = re.compile(r"^ +(?:pub +)?([^\W\d][\w'-]*) *:(?!=)", re.M)
 TYPE = re.compile(r"^(?:pub +)?(?:abbrev +)?(?:data|record) +(?:pub +)?([^\W\d][\w'-]*)", re.M)
 BLOCK = re.compile(r"^(?:pub +)?(?:data|record) .*(?:\n(?: .*|))*", re.M)
@@ -25,6 +25,8 @@ APART = {
     "at-host": "host_stands",
     "device-fits": "device_frame_fits",
     "host-fits": "host_frame_fits",
+    "host-offered": "host_offering",
+    "device-offered": "device_offering",
     "device-reads": "device_reads_on",
     "host-reads": "host_reads_on",
     "to-device": "handed_to_device",
@@ -45,7 +47,7 @@ def own_names(files):
     """The names of values, and those of types."""
     values, types = set(), set()
     for f in files:
-        if f.name in GENERATED or "src" in f.parts:
+        if "src" in f.parts or f.name in GENERATED and "proofs" in f.parts:
             continue
         t = f.read_text()
         for name, kind in DEFINED.findall(t):

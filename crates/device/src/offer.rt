@@ -1,6 +1,6 @@
 // Offers: how the device composes an answer, keeps it and writes it.
 ghost use Rattle.std.specs.Prelude.{◌≡◌, ◌≤◌, [], length};
-ghost use Rattle.machine.specs.Answers.{answered, readRefused, unless, written};
+ghost use Rattle.machine.specs.Answers.{answered, read_refused, unless, written};
 ghost use Rattle.machine.specs.DeviceEnd.{cause_bit, device_data, device_frame, device_offer_answer, device_offer_next, device_offer_octets, device_offer_says, device_offered_in, device_safe, device_status};
 ghost use Rattle.machine.specs.Frames.{composed, zeros};
 ghost use Rattle.machine.specs.declared.phase.DevicePhase.TheVariants.{Run, Waiting};
@@ -94,10 +94,10 @@ impl<K: SignatureKind> Device<K> {
 
     // Writes a frame to the front of a buffer that has room for it; in run the frame is kept.
     fn write(&mut self, frame: Frame, buffer: &mut [u8]) -> Result<Outcome, Refusal>
-        ensures answer { result ≡ answered (readRefused (length (framed frame)) (length buffer.old)) (device_offer_says (device_view self.old).phase (device_view self.old)) }
-        ensures next { device_view self.new ≡ unless (readRefused (length (framed frame)) (length buffer.old)) (device_view self.old) (device_offered_in (device_view self.old).phase (device_view self.old) (framed frame)) }
+        ensures answer { result ≡ answered (read_refused (length (framed frame)) (length buffer.old)) (device_offer_says (device_view self.old).phase (device_view self.old)) }
+        ensures next { device_view self.new ≡ unless (read_refused (length (framed frame)) (length buffer.old)) (device_view self.old) (device_offered_in (device_view self.old).phase (device_view self.old) (framed frame)) }
         ensures setup { self.new.setup ≡ self.old.setup }
-        ensures buffer { buffer.new ≡ written (unless (readRefused (length (framed frame)) (length buffer.old)) [] (framed frame)) buffer.old }
+        ensures buffer { buffer.new ≡ written (unless (read_refused (length (framed frame)) (length buffer.old)) [] (framed frame)) buffer.old }
     {
         let octets = frame.as_slice();
         if buffer.len() < octets.len() {

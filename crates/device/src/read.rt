@@ -1,7 +1,7 @@
 // Readings: what the device hands out to the process.
 ghost use Rattle.std.specs.Prelude.{◌≡◌, length};
 ghost use Rattle.std.specs.Option.{option_map};
-ghost use Rattle.machine.specs.Answers.{readSays, written};
+ghost use Rattle.machine.specs.Answers.{read_says, written};
 ghost use Rattle.machine.specs.DeviceEnd.{device_read_answer, device_read_octets, device_values};
 ghost use Rattle.machine.specs.Frames.{data_of};
 ghost use Rattle.frame.specs.Held.{framed};
@@ -28,7 +28,7 @@ impl<K: SignatureKind> Device<K> {
 
     // What a reading would answer: process or fail-safe values.
     pub fn reading(&self) -> Outcome
-        ensures { result ≡ readSays (device_values self.now.setup (device_view self.now)) }
+        ensures { result ≡ read_says (device_values self.now.setup (device_view self.now)) }
     {
         match self.usable() {
             Some(_) => Outcome::Process,

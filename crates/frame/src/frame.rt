@@ -2,7 +2,7 @@
 ghost use Rattle.std.specs.Prelude.{◌≡◌, ℕ, ◌+◌, ◌≤◌, [], ◌∷◌, ◌++◌, length, take, replicate, slice_index};
 ghost use Rattle.signature.specs.Kind.{signature};
 ghost use Rattle.signature.specs.Numbers.{numeral};
-ghost use Rattle.machine.specs.Answers.{answered, readRefused, unless, written};
+ghost use Rattle.machine.specs.Answers.{answered, read_refused, unless, written};
 ghost use Rattle.machine.specs.Frames.{composed, zeros};
 ghost use Rattle.frame.specs.Held.{framed};
 
@@ -105,8 +105,8 @@ impl Frame {
 
     // Writes the frame to the front of a buffer, if there is room for it.
     pub fn write(&self, buffer: &mut [u8]) -> Result<(), Refusal>
-        ensures answer { result ≡ answered (readRefused (length (framed self.now)) (length buffer.old)) tt }
-        ensures buffer { buffer.new ≡ written (unless (readRefused (length (framed self.now)) (length buffer.old)) [] (framed self.now)) buffer.old }
+        ensures answer { result ≡ answered (read_refused (length (framed self.now)) (length buffer.old)) tt }
+        ensures buffer { buffer.new ≡ written (unless (read_refused (length (framed self.now)) (length buffer.old)) [] (framed self.now)) buffer.old }
     {
         let octets = self.as_slice();
         if buffer.len() < octets.len() {

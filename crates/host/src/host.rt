@@ -3,7 +3,7 @@ ghost use Rattle.std.specs.Prelude.{◌≡◌, ◌≤◌, length, is_some};
 ghost use Rattle.signature.specs.Numbers.{numeral};
 ghost use Rattle.machine.specs.declared.phase.Cause.TheVariants.{Start};
 ghost use Rattle.machine.specs.HostEnd.{host_advanced, host_composed, host_control, host_fits, host_judged, host_offer_answer, host_offer_next, host_offer_octets, host_opened, host_press_answer, host_press_next, host_read_answer, host_read_octets, host_safe, host_started, host_take_answer, host_take_next, host_ticks_answer, host_ticks_next, host_usable, host_values};
-ghost use Rattle.machine.specs.Answers.{readSays, written};
+ghost use Rattle.machine.specs.Answers.{read_says, written};
 ghost use Rattle.frame.specs.Held.{framed};
 ghost use Rattle.host.specs.View.{host_view};
 
@@ -100,7 +100,7 @@ impl<K: SignatureKind> Host<K> {
 
     // What a reading would answer.
     pub fn reading(&self) -> Outcome
-        ensures { result ≡ readSays (host_values self.now.setup (host_view self.now)) }
+        ensures { result ≡ read_says (host_values self.now.setup (host_view self.now)) }
     {
         match self.answer {
             Some(answer) if self.usable(&answer) => Outcome::Process,

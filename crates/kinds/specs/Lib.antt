@@ -1,4 +1,4 @@
--- The definitions that the contracts of this crate cite.
+-- The definitions that the contracts of this crate cite, and the lemmas behind the laws that its kinds owe.
 pub mod Kinds
 pub mod Lawful
 pub mod ValuesLemmas

@@ -11,11 +11,11 @@ abbrev low : ℕ → ℕ
 low n = digit_glyph false (n % 10)
 
 order : (m n : ℕ) → (m < n) ⊎ (n ≤ m)
-order m n = by-test (ltb m n) refl
+order m n = by_test (ltb m n) refl
   where
-    by-test : (y : Bool) → ltb m n ≡ y → (m < n) ⊎ (n ≤ m)
-    by-test true e = inl (ltb-true m n e)
-    by-test false e = inr (ltb-false m n e)
+    by_test : (y : Bool) → ltb m n ≡ y → (m < n) ⊎ (n ≤ m)
+    by_test true e = inl (ltb-true m n e)
+    by_test false e = inr (ltb-false m n e)
 
 pub begun : (n : ℕ) → spell 64 n [] ≡ decimal n
 unfolding digits

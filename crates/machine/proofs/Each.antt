@@ -12,7 +12,7 @@ use Rattle.machine.specs.declared.phase.DevicePhase.{DevicePhase}
 use Rattle.machine.specs.declared.phase.Cause.TheVariants.{Time}
 use Rattle.block.specs.declared.setup.Setup.{Setup}
 use Rattle.machine.specs.Watch.{expired}
-use Rattle.machine.specs.Answers.{Answer, answers, answered, unless, readRefused, readSays}
+use Rattle.machine.specs.Answers.{Answer, answers, answered, unless, read_refused, read_says}
 use Rattle.machine.specs.HostEnd.{HostState, host_started, host_runs, host_composed, host_frame_from, host_frame, host_offer_refused, host_offer_says, host_keeping, host_offer_answer, host_offer_next, host_offer_octets, host_counted, host_ticks_says, host_ticked_in, host_ticks_answer, host_ticks_next, press_awaited, host_released, host_press_answer, host_press_next, host_values, host_read_answer, host_read_octets}
 use Rattle.machine.specs.DeviceEnd.{DeviceState, device_faulted, device_runs, device_composed, device_frame_from, device_frame, device_offer_refused, device_offer_says, device_offered_in, device_keeping, device_offer_answer, device_offer_next, device_offer_octets, device_counted, device_ticks_says, device_ticked_in, device_ticks_answer, device_ticks_next, device_values, device_read_answer, device_read_octets}
 use Rattle.machine.specs.Lines.{Entry, offered, host_changed}
@@ -31,7 +31,7 @@ idle m s {tr} {H} {D} ev nh nd th td i =
     pass m s ev H.ticks D.ticks nh nd (λ _. omega arith) i.stand.h_ticks (λ _. omega arith) i.stand.d_ticks i
 
 -- a reading is no fault
-read_calm : (r : Option Reason) (v : Option (List ℕ)) → answers (answered r (readSays v)) Fault ≡ false
+read_calm : (r : Option Reason) (v : Option (List ℕ)) → answers (answered r (read_says v)) Fault ≡ false
 read_calm None None = refl
 read_calm None (Some values) = refl
 read_calm (Some e) v = refl
@@ -42,9 +42,9 @@ module _ (m : Model) (laws : Laws m) (s : Setup) (checked : Checked s) {tr : Lis
     HostOffered : Option Reason → Answer → List ℕ → HostState → Type 0
     HostOffered r a f next = Inv m s (event (host_offer v wish room) a (unless r [] f) ∷ tr) next D (offered a (unless r [] f) H.number out) inn
 
-    host-accepts : host_offer_refused m s H v wish room ≡ None → HostOffered None (Ok (host_offer_says H)) (host_frame m s H v wish) (host_keeping H (host_frame m s H v wish))
+    host_accepts : host_offer_refused m s H v wish room ≡ None → HostOffered None (Ok (host_offer_says H)) (host_frame m s H v wish) (host_keeping H (host_frame m s H v wish))
     unfolding HostOffered
-    host-accepts ok = by_option P H.kept fresh again
+    host_accepts ok = by_option P H.kept fresh again
       where
         P : Option (List ℕ) → Type 0
         P k = HostOffered None (Ok (cond (is_some k) Repeat Fresh)) (host_frame_from k m s H v wish) (host_keeping H (host_frame_from k m s H v wish))
@@ -64,11 +64,11 @@ module _ (m : Model) (laws : Laws m) (s : Setup) (checked : Checked s) {tr : Lis
             subst (λ k. Inv m s (ev ∷ tr) (host_with H k) D (record { frame = f; number = H.number; begun = 0 } ∷ out) inn) e
             (writes m s (idle m s ev refl refl refl refl i) f e)
 
-    pub host-offers : Inv m s (event (host_offer v wish room) (host_offer_answer m s H v wish room) (host_offer_octets m s H v wish room) ∷ tr) (host_offer_next m s H v wish room) D (offered (host_offer_answer m s H v wish room) (host_offer_octets m s H v wish room) H.number out) inn
+    pub host_offers : Inv m s (event (host_offer v wish room) (host_offer_answer m s H v wish room) (host_offer_octets m s H v wish room) ∷ tr) (host_offer_next m s H v wish room) D (offered (host_offer_answer m s H v wish room) (host_offer_octets m s H v wish room) H.number out) inn
     unfolding HostOffered
-    host-offers =
+    host_offers =
         by_option (λ r. HostOffered r (answered r (host_offer_says H)) (host_frame m s H v wish) (unless r H (host_keeping H (host_frame m s H v wish))))
-        (host_offer_refused m s H v wish room) host-accepts (λ e _. idle m s _ refl refl refl refl i)
+        (host_offer_refused m s H v wish room) host_accepts (λ e _. idle m s _ refl refl refl refl i)
 
   module _ (v : List ℕ) (flags room : ℕ) (ov : Octets v) where
     DeviceOffered : Option Reason → Answer → List ℕ → DeviceState → Type 0
@@ -78,9 +78,9 @@ module _ (m : Model) (laws : Laws m) (s : Setup) (checked : Checked s) {tr : Lis
     muted : device_runs D.phase ≡ true → {tr' : List Event} {D' : DeviceState} → D'.phase ≡ D.phase → (i' : Inv m s tr' H D' out inn) {f : List ℕ} → DeviceFrame m s f i'.d → i'.joined ≡ false → confirms s f ≡ false
     muted r e i' {f} o j = elim (cases_Bool (confirms s f)) [ inl x ↦ absurd (omega (arith, o.cons x, i'.stand.away j (ap device_runs e ∙ r))) | inr x ↦ x ]
 
-    device-accepts : device_offer_refused m s D v flags room ≡ None → DeviceOffered None (Ok (device_offer_says D.phase D)) (device_frame m s D v flags) (device_offered_in D.phase D (device_frame m s D v flags))
+    device_accepts : device_offer_refused m s D v flags room ≡ None → DeviceOffered None (Ok (device_offer_says D.phase D)) (device_frame m s D v flags) (device_offered_in D.phase D (device_frame m s D v flags))
     unfolding DeviceOffered
-    device-accepts ok = by_device_phase P D.phase waits runs
+    device_accepts ok = by_device_phase P D.phase waits runs
       where
         P : DevicePhase → Type 0
         P p = DeviceOffered None (Ok (device_offer_says p D)) (device_frame_from p D.kept m s D v flags) (device_offered_in p D (device_frame_from p D.kept m s D v flags))
@@ -121,11 +121,11 @@ module _ (m : Model) (laws : Laws m) (s : Setup) (checked : Checked s) {tr : Lis
                 subst (λ k. Inv m s (ev ∷ tr) H (device_with D k) out (record { frame = f; number = D.number; begun = 0 } ∷ inn)) e
                 (writes_answer m s i' f D.number k (muted r refl i' k.frame))
 
-    pub device-offers : Inv m s (event (device_offer v flags room) (device_offer_answer m s D v flags room) (device_offer_octets m s D v flags room) ∷ tr) H (device_offer_next m s D v flags room) out (offered (device_offer_answer m s D v flags room) (device_offer_octets m s D v flags room) D.number inn)
+    pub device_offers : Inv m s (event (device_offer v flags room) (device_offer_answer m s D v flags room) (device_offer_octets m s D v flags room) ∷ tr) H (device_offer_next m s D v flags room) out (offered (device_offer_answer m s D v flags room) (device_offer_octets m s D v flags room) D.number inn)
     unfolding DeviceOffered
-    device-offers =
+    device_offers =
         by_option (λ r. DeviceOffered r (answered r (device_offer_says D.phase D)) (device_frame m s D v flags) (unless r D (device_offered_in D.phase D (device_frame m s D v flags))))
-        (device_offer_refused m s D v flags room) device-accepts (λ e _. idle m s _ refl refl refl refl i)
+        (device_offer_refused m s D v flags room) device_accepts (λ e _. idle m s _ refl refl refl refl i)
 
   -- ---- ticks
   pub host_ticking : (n : ℕ) → Inv m s (event (host_ticks n) (host_ticks_answer s H n) [] ∷ tr) (host_ticks_next s H n) D (host_changed (host_ticks_answer s H n) out) (host_changed (host_ticks_answer s H n) inn)
@@ -175,7 +175,7 @@ module _ (m : Model) (laws : Laws m) (s : Setup) (checked : Checked s) {tr : Lis
   buttons reading a b = idle m s _ refl refl refl refl i
 
   pub host_reads_on : (room : ℕ) → Inv m s (event (host_read room) (host_read_answer s H room) (host_read_octets s H room) ∷ tr) H D out inn
-  host_reads_on room = idle m s _ (read_calm (readRefused s.in_len room) (host_values s H)) refl refl refl i
+  host_reads_on room = idle m s _ (read_calm (read_refused s.in_len room) (host_values s H)) refl refl refl i
 
   pub device_reads_on : (room : ℕ) → Inv m s (event (device_read room) (device_read_answer s D room) (device_read_octets s D room) ∷ tr) H D out inn
-  device_reads_on room = idle m s _ refl (read_calm (readRefused s.out_len room) (device_values s D)) refl refl i
+  device_reads_on room = idle m s _ refl (read_calm (read_refused s.out_len room) (device_values s D)) refl refl i

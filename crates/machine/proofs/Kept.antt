@@ -85,9 +85,9 @@ module _ (m : Model) (s : Setup) where
   host_after calls = (after m s calls).host
 
   module _ (v : List ℕ) (wish room : ℕ) (older : List Call) where
-    host-composes : host_offer_refused m s (host_after older) v wish room ≡ None → (host_after older).kept ≡ None
+    host_composes : host_offer_refused m s (host_after older) v wish room ≡ None → (host_after older).kept ≡ None
         → ComposedUnder m s host (host_frame m s (host_after older) v wish) (host_after older).number (host_offer v wish room ∷ older)
-    host-composes ok none = record {
+    host_composes ok none = record {
       newer = [];
       offer = host_offer v wish room;
       older = older;
@@ -102,22 +102,22 @@ module _ (m : Model) (s : Setup) where
     }
 
     -- what the host keeps, by the reason to refuse that its offer has
-    abbrev hostOffered : Option Reason → HostState
-    hostOffered r = unless r (host_after older) (host_keeping (host_after older) (host_frame m s (host_after older) v wish))
+    abbrev host_offered : Option Reason → HostState
+    host_offered r = unless r (host_after older) (host_keeping (host_after older) (host_frame m s (host_after older) v wish))
 
-    host-offered : ((f : List ℕ) → (host_after older).kept ≡ Some f → ComposedUnder m s host f (host_after older).number older)
-        → (r : Option Reason) → host_offer_refused m s (host_after older) v wish room ≡ r → (f : List ℕ) → (hostOffered r).kept ≡ Some f
-        → ComposedUnder m s host f (hostOffered r).number (host_offer v wish room ∷ older)
-    host-offered before (Some x) ok f e = composed_before (host_offer v wish room) (before f e)
-    host-offered before None ok f e = from (host_after older).kept refl
+    host_offering : ((f : List ℕ) → (host_after older).kept ≡ Some f → ComposedUnder m s host f (host_after older).number older)
+        → (r : Option Reason) → host_offer_refused m s (host_after older) v wish room ≡ r → (f : List ℕ) → (host_offered r).kept ≡ Some f
+        → ComposedUnder m s host f (host_offered r).number (host_offer v wish room ∷ older)
+    host_offering before (Some x) ok f e = composed_before (host_offer v wish room) (before f e)
+    host_offering before None ok f e = from (host_after older).kept refl
       where
         from : (k : Option (List ℕ)) → (host_after older).kept ≡ k → ComposedUnder m s host f (host_after older).number (host_offer v wish room ∷ older)
-        from None k = subst (λ x. ComposedUnder m s host x (host_after older).number (host_offer v wish room ∷ older)) (some_same e) (host-composes ok k)
+        from None k = subst (λ x. ComposedUnder m s host x (host_after older).number (host_offer v wish room ∷ older)) (some_same e) (host_composes ok k)
         from (Some g) k = composed_before (host_offer v wish room) (before f (k ∙ sym (ap (λ o. Some (host_frame_from o m s (host_after older) v wish)) k) ∙ e))
 
   pub host_kept : (calls : List Call) (f : List ℕ) → (host_after calls).kept ≡ Some f → ComposedUnder m s host f (host_after calls).number calls
   host_kept [] f e = absurd (none_some e)
-  host_kept (host_offer v wish room ∷ older) f e = host-offered v wish room older (host_kept older) (host_offer_refused m s (host_after older) v wish room) refl f e
+  host_kept (host_offer v wish room ∷ older) f e = host_offering v wish room older (host_kept older) (host_offer_refused m s (host_after older) v wish room) refl f e
   host_kept (to_device g ∷ older) f e = composed_before (to_device g) (host_kept older f e)
   host_kept (device_offer v flags room ∷ older) f e = composed_before (device_offer v flags room) (host_kept older f e)
   host_kept (to_host g ∷ older) f e = let k = host_take m s (host_after older) g f e in goes_on (to_host g) k.1 (host_kept older f k.0)
@@ -135,10 +135,10 @@ module _ (m : Model) (s : Setup) where
 
   module _ (v : List ℕ) (flags room : ℕ) (older : List Call) where
     -- an offer that answers fresh or waiting composes
-    pub device-composes : device_offer_refused m s (device_after older) v flags room ≡ None
+    pub device_composes : device_offer_refused m s (device_after older) v flags room ≡ None
         → (device_offer_says (device_after older).phase (device_after older) ≡ Fresh) ⊎ (device_offer_says (device_after older).phase (device_after older) ≡ Waiting)
         → ComposedUnder m s device (device_frame m s (device_after older) v flags) (device_after older).number (device_offer v flags room ∷ older)
-    device-composes ok says = record {
+    device_composes ok says = record {
       newer = [];
       offer = device_offer v flags room;
       older = older;
@@ -156,20 +156,20 @@ module _ (m : Model) (s : Setup) where
         answer = ap (λ r. answered r (device_offer_says (device_after older).phase (device_after older))) ok
 
     -- what the device keeps, by the reason to refuse that its offer has and by its phase
-    abbrev deviceOffered : Option Reason → DevicePhase → DeviceState
-    deviceOffered r p = unless r (device_after older) (device_offered_in p (device_after older) (device_frame m s (device_after older) v flags))
+    abbrev device_offered : Option Reason → DevicePhase → DeviceState
+    device_offered r p = unless r (device_after older) (device_offered_in p (device_after older) (device_frame m s (device_after older) v flags))
 
-    device-offered : ((f : List ℕ) → (device_after older).kept ≡ Some f → ComposedUnder m s device f (device_after older).number older)
-        → (r : Option Reason) → device_offer_refused m s (device_after older) v flags room ≡ r → (p : DevicePhase) → (device_after older).phase ≡ p → (f : List ℕ) → (deviceOffered r p).kept ≡ Some f
-        → ComposedUnder m s device f (deviceOffered r p).number (device_offer v flags room ∷ older)
-    device-offered before (Some x) ok p run f e = composed_before (device_offer v flags room) (before f e)
-    device-offered before None ok DevicePhase.Waiting run f e = composed_before (device_offer v flags room) (before f e)
-    device-offered before None ok DevicePhase.Run run f e = from (device_after older).kept refl
+    device_offering : ((f : List ℕ) → (device_after older).kept ≡ Some f → ComposedUnder m s device f (device_after older).number older)
+        → (r : Option Reason) → device_offer_refused m s (device_after older) v flags room ≡ r → (p : DevicePhase) → (device_after older).phase ≡ p → (f : List ℕ) → (device_offered r p).kept ≡ Some f
+        → ComposedUnder m s device f (device_offered r p).number (device_offer v flags room ∷ older)
+    device_offering before (Some x) ok p run f e = composed_before (device_offer v flags room) (before f e)
+    device_offering before None ok DevicePhase.Waiting run f e = composed_before (device_offer v flags room) (before f e)
+    device_offering before None ok DevicePhase.Run run f e = from (device_after older).kept refl
       where
         from : (k : Option (List ℕ)) → (device_after older).kept ≡ k → ComposedUnder m s device f (device_after older).number (device_offer v flags room ∷ older)
         from None k =
             subst (λ x. ComposedUnder m s device x (device_after older).number (device_offer v flags room ∷ older)) (some_same e)
-            (device-composes ok (inl (ap (λ p. device_offer_says p (device_after older)) run ∙ ap (λ k. cond (is_some k) Repeat Fresh) k)))
+            (device_composes ok (inl (ap (λ p. device_offer_says p (device_after older)) run ∙ ap (λ k. cond (is_some k) Repeat Fresh) k)))
         from (Some g) k =
             composed_before (device_offer v flags room)
             (before f (k ∙ sym (ap (λ p. Some (device_frame_from p (device_after older).kept m s (device_after older) v flags)) run ∙ ap (λ o. Some (device_frame_from DevicePhase.Run o m s (device_after older) v flags)) k) ∙ e))
@@ -178,7 +178,7 @@ module _ (m : Model) (s : Setup) where
   device_kept [] f e = absurd (none_some e)
   device_kept (host_offer v wish room ∷ older) f e = composed_before (host_offer v wish room) (device_kept older f e)
   device_kept (to_device g ∷ older) f e = let k = device_take m s (device_after older) g f e in goes_on (to_device g) k.1 (device_kept older f k.0)
-  device_kept (device_offer v flags room ∷ older) f e = device-offered v flags room older (device_kept older) (device_offer_refused m s (device_after older) v flags room) refl (device_after older).phase refl f e
+  device_kept (device_offer v flags room ∷ older) f e = device_offering v flags room older (device_kept older) (device_offer_refused m s (device_after older) v flags room) refl (device_after older).phase refl f e
   device_kept (to_host g ∷ older) f e = composed_before (to_host g) (device_kept older f e)
   device_kept (host_ticks n ∷ older) f e = composed_before (host_ticks n) (device_kept older f e)
   device_kept (device_ticks n ∷ older) f e = let k = device_ticked (device_after older).phase s (device_after older) n f e in goes_on (device_ticks n) k.1 (device_kept older f k.0)

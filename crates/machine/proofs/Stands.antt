@@ -11,7 +11,7 @@ use Rattle.machine.specs.declared.outcome.Outcome.TheVariants.{Process, FailSafe
 use Rattle.machine.specs.declared.phase.DevicePhase.{DevicePhase}
 use Rattle.block.specs.declared.setup.Setup.{Setup}
 use Rattle.machine.specs.Frames.{FV_activated, activate_FV, has, zeros}
-use Rattle.machine.specs.Answers.{Answer, refused, answered, unless, readRefused, readSays, readValues}
+use Rattle.machine.specs.Answers.{Answer, refused, answered, unless, read_refused, read_says, read_values}
 use Rattle.machine.specs.HostEnd.{HostState, host_runs, host_frame, host_offer_refused, host_offer_says, host_keeping, host_usable, host_status, host_values_from, host_values}
 use Rattle.machine.specs.DeviceEnd.{DeviceState, device_runs, device_composed, device_frame_from, device_frame, device_offer_refused, device_offer_says, device_offered_in, device_usable, device_control, device_values_from, device_values, device_data, device_status}
 use Rattle.machine.specs.Calls.{Call, host_offer, to_device, device_offer, to_host, host_ticks, device_ticks, button, press, host_read, device_read, Event, event, Pair, blank, happens, after, history, Admissible}
@@ -23,9 +23,9 @@ use Rattle.machine.proofs.Cases.{none_some, some_same}
 use Rattle.machine.proofs.Octets.{composed_fits}
 use Rattle.machine.proofs.Traces.{Carried, Pressed, press_taken, press_since}
 use Rattle.machine.proofs.Invariant.{host_fv, device_fv, host_data_of, device_data_of, Inv}
-use Rattle.machine.proofs.Each.{host-offers, device-offers, host_ticking, device_ticking, presses, buttons, host_reads_on, device_reads_on}
+use Rattle.machine.proofs.Each.{host_offers, device_offers, host_ticking, device_ticking, presses, buttons, host_reads_on, device_reads_on}
 use Rattle.machine.proofs.Takes.{handed_to_host, handed_to_device}
-use Rattle.machine.proofs.Kept.{host_kept, device_kept, device-composes}
+use Rattle.machine.proofs.Kept.{host_kept, device_kept, device_composes}
 
 -- ---- the invariant, after every list of calls
 
@@ -65,9 +65,9 @@ at_start m s checked = record {
 module _ (m : Model) (laws : Laws m) (s : Setup) (checked : Checked s) where
   pub always : (calls : List Call) → Admissible m s calls → InvAt m s (history m s calls) (after m s calls)
   always [] a = at_start m s checked
-  always (host_offer v wish room ∷ older) a = host-offers m laws s checked (always older a.0) v wish room a.1
+  always (host_offer v wish room ∷ older) a = host_offers m laws s checked (always older a.0) v wish room a.1
   always (to_device f ∷ older) a = handed_to_device m s (always older a.0) f a.1
-  always (device_offer v flags room ∷ older) a = device-offers m laws s checked (always older a.0) v flags room a.1
+  always (device_offer v flags room ∷ older) a = device_offers m laws s checked (always older a.0) v flags room a.1
   always (to_host f ∷ older) a = handed_to_host m s (always older a.0) f a.1
   always (host_ticks n ∷ older) a = host_ticking m laws s checked (always older a.0) n
   always (device_ticks n ∷ older) a = device_ticking m laws s checked (always older a.0) n
@@ -127,7 +127,7 @@ safe_not_process e = let z : ◌≡◌ {A = ℕ} 0 1 = cc in omega arith
 refused_not_process : {x : Refusal} → ◌≡◌ {A = Answer} (Err x) (Ok Process) → ⊥
 refused_not_process e = let z : ◌≡◌ {A = ℕ} 0 1 = cc in omega arith
 
-process_from : (r : Option Reason) (v : Option (List ℕ)) → answered r (readSays v) ≡ Ok Process → (w : List ℕ) × (v ≡ Some w)
+process_from : (r : Option Reason) (v : Option (List ℕ)) → answered r (read_says v) ≡ Ok Process → (w : List ℕ) × (v ≡ Some w)
 process_from None None e = absurd (safe_not_process e)
 process_from None (Some w) e = (w, refl)
 process_from (Some x) v e = absurd (refused_not_process e)
@@ -138,7 +138,7 @@ accepted (Some x) o e = absurd (true≢false e)
 
 -- a reading is one of the three, if its process values are those of a fresh offer
 reading : (s : Setup) (e : End) (past : List Event) (c : Call) (len : ℕ) (r : Option Reason) (v : Option (List ℕ)) → len ≡ read_length s e
-    → ((w : List ℕ) → v ≡ Some w → FreshOffer s e w past) → HandsOut s e past (event c (answered r (readSays v)) (unless r [] (readValues v len)))
+    → ((w : List ℕ) → v ≡ Some w → FreshOffer s e w past) → HandsOut s e past (event c (answered r (read_says v)) (unless r [] (read_values v len)))
 reading s e past c len None None l fresh = fail_safe_values refl (ap zeros l)
 reading s e past c len None (Some w) l fresh = process_values refl (fresh w refl)
 reading s e past c len (Some x) v l fresh = nothing refl refl
@@ -160,15 +160,15 @@ module _ (m : Model) (s : Setup) (calls : List Call) (i : InvAt m s (history m s
       offer_from device _ w _ (omega (arith, i.stand.d_ticks)) o.is (i.d_frame o.frame o.has_frame o.running o.live)
 
   values_here : (e : End) (c : Call) → Reads e c → HandsOut s e (history m s calls) (happens m s (after m s calls) c)
-  values_here host _ (reads_host {room}) = reading s host (history m s calls) (host_read room) s.in_len (readRefused s.in_len room) (host_values s (after m s calls).host) refl host_fresh
-  values_here device _ (reads_device {room}) = reading s device (history m s calls) (device_read room) s.out_len (readRefused s.out_len room) (device_values s (after m s calls).device) refl device_fresh
+  values_here host _ (reads_host {room}) = reading s host (history m s calls) (host_read room) s.in_len (read_refused s.in_len room) (host_values s (after m s calls).host) refl host_fresh
+  values_here device _ (reads_device {room}) = reading s device (history m s calls) (device_read room) s.out_len (read_refused s.out_len room) (device_values s (after m s calls).device) refl device_fresh
 
   pressed_here : (e : End) (c : Call) → Reads e c → (happens m s (after m s calls) c).answer ≡ Ok Process → Pressed e (history m s calls)
   pressed_here host _ (reads_host {room}) a =
-      let v = process_from (readRefused s.in_len room) (host_values s (after m s calls).host) a in
+      let v = process_from (read_refused s.in_len room) (host_values s (after m s calls).host) a in
       i.pressed_h (host_reading s (after m s calls).host v.0 v.1).released
   pressed_here device _ (reads_device {room}) a =
-      let v = process_from (readRefused s.out_len room) (device_values s (after m s calls).device) a in
+      let v = process_from (read_refused s.out_len room) (device_values s (after m s calls).device) a in
       let o = device_reading s (after m s calls).device v.0 v.1 in
       i.d_pressed o.frame o.has_frame o.running o.live
 
@@ -212,7 +212,7 @@ module _ (m : Model) (s : Setup) (older : List Call) where
 
       by-phase : (p : DevicePhase) → (after m s older).device.phase ≡ p → Fitting m s device frame (device_offer v flags room ∷ older)
       by-phase DevicePhase.Waiting w =
-          let composes = device-composes m s v flags room older ok (inr (ap (λ p. device_offer_says p D) w)) in
+          let composes = device_composes m s v flags room older ok (inr (ap (λ p. device_offer_says p D) w)) in
           let same : device_composed m s D v flags ≡ frame = sym (ap (λ p. device_frame_from p D.kept m s D v flags) w) in
           (D.number, composes, subst (λ f. fits_number m s.crc D.number f ≡ true) same (composed_fits m s.crc D.number (device_data D.phase s D v flags) (device_status D.phase D flags)))
       by-phase DevicePhase.Run w =

@@ -209,8 +209,8 @@ module _ (m : Model) (s : Setup) {tr : List Event} {H : HostState} {D : DeviceSt
         by_device_phase (λ p. TakenByDevice (device_take_says p DeviceJudged.Next D) (device_taken_in p DeviceJudged.Next D f)) D.phase (λ _. stays Ignored refl refl)
         (λ run. moved on run (subst (λ n. device_fits m s n f ≡ true) held fits))
 
-    fits-same : TakenByDevice (device_take_says D.phase DeviceJudged.Same D) (device_taken_in D.phase DeviceJudged.Same D f)
-    fits-same =
+    fits_same : TakenByDevice (device_take_says D.phase DeviceJudged.Same D) (device_taken_in D.phase DeviceJudged.Same D f)
+    fits_same =
         by_device_phase (λ p. TakenByDevice (device_take_says p DeviceJudged.Same D) (device_taken_in p DeviceJudged.Same D f)) D.phase (λ _. stays Ignored refl refl) (λ _. stays Repeat refl refl)
 
   pub handed_to_device : On f out ⊎ ((refused (device_take_answer m s D f) ≡ true) ⊎ (device_fits m s (device_held_against s D f) f ≡ false))
@@ -233,7 +233,7 @@ module _ (m : Model) (s : Setup) {tr : List Event} {H : HostState} {D : DeviceSt
       fitting : On f out → device_fits m s (device_held_against s D f) f ≡ true → S kind
       fitting on fits =
           by_bool (λ b. S (cond b DeviceJudged.Zero (cond (turns_toggle s D f) DeviceJudged.Next DeviceJudged.Same))) (asks_restart s f) (fits_zero on fits)
-          (λ a. by_bool (λ b. S (cond b DeviceJudged.Next DeviceJudged.Same)) (turns_toggle s D f) (fits_next on fits a) (λ _. fits-same on fits))
+          (λ a. by_bool (λ b. S (cond b DeviceJudged.Next DeviceJudged.Same)) (turns_toggle s D f) (fits_next on fits a) (λ _. fits_same on fits))
 
       accepts : device_take_refused m s f ≡ None → P None
       accepts ok =

@@ -6,7 +6,7 @@ use Rattle.refusal.specs.declared.reason.Reason.TheVariants.{NoPressAwaited}
 use Rattle.refusal.specs.Refusals.{refusal_at}
 use Rattle.machine.specs.declared.outcome.Outcome.{Outcome}
 use Rattle.machine.specs.declared.outcome.Outcome.TheVariants.{Taken, Quiet}
-use Rattle.machine.specs.Answers.{refused, answered, unless, readRefused, readSays, readValues}
+use Rattle.machine.specs.Answers.{refused, answered, unless, read_refused, read_says, read_values}
 use Rattle.machine.specs.HostEnd.{host_frame, host_offer_refused, host_offer_says, host_keeping, host_judged, host_taken_in, host_take_says, host_take_refused, press_awaited, host_released, host_values}
 use Rattle.machine.specs.DeviceEnd.{device_frame, device_offer_refused, device_offer_says, device_offered_in, device_judged, device_taken_in, device_take_says, device_take_refused, device_values}
 use Rattle.machine.specs.Button.{button_refused}
@@ -55,6 +55,6 @@ unchanged m s p (press given) h = by_bool P given (λ _. by_bool Q (press_awaite
         refused (cond b (cond (press_awaited p.host) (Ok Taken) (Err (refusal_at NoPressAwaited 0))) (Ok Quiet)) ≡ true
         → (with_host p (cond b (cond (press_awaited p.host) (host_released p.host) p.host) p.host) p.outward p.inward ≡ p) × (◌≡◌ {A = List ℕ} [] [])
 unchanged m s p (host_read room) h =
-    by_refusal (λ r. (p ≡ p) × (unless r [] (readValues (host_values s p.host) s.in_len) ≡ [])) (readSays (host_values s p.host)) (readRefused s.in_len room) h (λ _. (refl, refl))
+    by_refusal (λ r. (p ≡ p) × (unless r [] (read_values (host_values s p.host) s.in_len) ≡ [])) (read_says (host_values s p.host)) (read_refused s.in_len room) h (λ _. (refl, refl))
 unchanged m s p (device_read room) h =
-    by_refusal (λ r. (p ≡ p) × (unless r [] (readValues (device_values s p.device) s.out_len) ≡ [])) (readSays (device_values s p.device)) (readRefused s.out_len room) h (λ _. (refl, refl))
+    by_refusal (λ r. (p ≡ p) × (unless r [] (read_values (device_values s p.device) s.out_len) ≡ [])) (read_says (device_values s p.device)) (read_refused s.out_len room) h (λ _. (refl, refl))

@@ -36,13 +36,13 @@ abbrev pub written : List ℕ → List ℕ → List ℕ
 written octets buffer = octets ++ drop (length octets) buffer
 
 -- A reading of len octets, at an end that may hand out these process values, if any.
-abbrev pub readRefused : ℕ → ℕ → Option Reason
-readRefused len room = cond (nat_lt room len) (Some BufferLength) None
+abbrev pub read_refused : ℕ → ℕ → Option Reason
+read_refused len room = cond (nat_lt room len) (Some BufferLength) None
 
-abbrev pub readSays : Option (List ℕ) → Outcome
-readSays None = FailSafe
-readSays (Some values) = Process
+abbrev pub read_says : Option (List ℕ) → Outcome
+read_says None = FailSafe
+read_says (Some values) = Process
 
-abbrev pub readValues : Option (List ℕ) → ℕ → List ℕ
-readValues None len = zeros len
-readValues (Some values) len = values
+abbrev pub read_values : Option (List ℕ) → ℕ → List ℕ
+read_values None len = zeros len
+read_values (Some values) len = values

@@ -14,7 +14,7 @@ use Rattle.block.specs.declared.setup.Setup.{Setup}
 use Rattle.signature.specs.Numbers.{following}
 use Rattle.machine.specs.Watch.{expired}
 use Rattle.machine.specs.Frames.{R_cons_nr, activate_FV, Toggle_h, Device_Fault, CE_CRC, WD_timeout, FV_activated, Toggle_d, cons_nr_R, has, flag, zeros, composed, frame_length, data_of, octet_of}
-use Rattle.machine.specs.Answers.{Answer, answered, unless, readRefused, readSays, readValues}
+use Rattle.machine.specs.Answers.{Answer, answered, unless, read_refused, read_says, read_values}
 
 -- A kept answer is the frame that was composed under the present number; the frame is the last host frame that was
 -- taken.
@@ -211,7 +211,7 @@ abbrev pub device_values : Setup → DeviceState → Option (List ℕ)
 device_values s d = device_values_from d.frame s d
 
 abbrev pub device_read_answer : Setup → DeviceState → ℕ → Answer
-device_read_answer s d room = answered (readRefused s.out_len room) (readSays (device_values s d))
+device_read_answer s d room = answered (read_refused s.out_len room) (read_says (device_values s d))
 
 abbrev pub device_read_octets : Setup → DeviceState → ℕ → List ℕ
-device_read_octets s d room = unless (readRefused s.out_len room) [] (readValues (device_values s d) s.out_len)
+device_read_octets s d room = unless (read_refused s.out_len room) [] (read_values (device_values s d) s.out_len)

@@ -16,7 +16,7 @@ use Rattle.block.specs.declared.setup.Setup.{Setup}
 use Rattle.signature.specs.Numbers.{following}
 use Rattle.machine.specs.Watch.{expired}
 use Rattle.machine.specs.Frames.{OA_Req, activate_FV, Toggle_h, Device_Fault, CE_CRC, WD_timeout, FV_activated, Toggle_d, cons_nr_R, has, flag, zeros, composed, frame_length, data_of, octet_of}
-use Rattle.machine.specs.Answers.{Answer, answered, unless, readRefused, readSays, readValues}
+use Rattle.machine.specs.Answers.{Answer, answered, unless, read_refused, read_says, read_values}
 
 -- The stop mark stands until the operator's press is taken. A kept frame waits for its answer; the answer is the
 -- last device frame that was taken.
@@ -227,7 +227,7 @@ abbrev pub host_values : Setup → HostState → Option (List ℕ)
 host_values s h = host_values_from h.answer s h
 
 abbrev pub host_read_answer : Setup → HostState → ℕ → Answer
-host_read_answer s h room = answered (readRefused s.in_len room) (readSays (host_values s h))
+host_read_answer s h room = answered (read_refused s.in_len room) (read_says (host_values s h))
 
 abbrev pub host_read_octets : Setup → HostState → ℕ → List ℕ
-host_read_octets s h room = unless (readRefused s.in_len room) [] (readValues (host_values s h) s.in_len)
+host_read_octets s h room = unless (read_refused s.in_len room) [] (read_values (host_values s h) s.in_len)

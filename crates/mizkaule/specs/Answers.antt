@@ -8,16 +8,16 @@ use Rattle.mizkaule.specs.declared.answer.Verdict.{Verdict}
 use Rattle.mizkaule.specs.declared.answer.Verdict.TheVariants.{Done, TurnedDown, NoSuch, NoMemory}
 
 -- a layer's figure: its place in the list, from 1
-abbrev pub layerFigure : Layer → ℕ
-layerFigure Block = 1
-layerFigure End = 2
-layerFigure Book = 3
+abbrev pub layer_figure : Layer → ℕ
+layer_figure Block = 1
+layer_figure End = 2
+layer_figure Book = 3
 
 -- Status 0 is done, 1 refused, 2 an argument that names no kind or no number, 3 want of memory. Number, layer and place
 -- are those of a refusal, and 0 otherwise.
 abbrev pub answer_of : Verdict → Answer
 answer_of (Done size) = record { status = 0; number = 0; layer = 0; place = 0; size = size }
 answer_of (TurnedDown e size) =
-    record { status = 1; number = number_of e.reason; layer = layerFigure (layer_of e.reason); place = e.place; size = size }
+    record { status = 1; number = number_of e.reason; layer = layer_figure (layer_of e.reason); place = e.place; size = size }
 answer_of NoSuch = record { status = 2; number = 0; layer = 0; place = 0; size = 0 }
 answer_of NoMemory = record { status = 3; number = 0; layer = 0; place = 0; size = 0 }

@@ -1,6 +1,6 @@
 // What a call through the C interface answers.
 ghost use Rattle.std.specs.Prelude.{◌≡◌};
-ghost use Rattle.mizkaule.specs.Answers.{answer_of, layerFigure};
+ghost use Rattle.mizkaule.specs.Answers.{answer_of, layer_figure};
 
 use refusal::{Layer, Refusal};
 
@@ -27,7 +27,7 @@ pub enum Verdict {
 }
 
 fn layer_figure(layer: Layer) -> u8
-    ensures { result ≡ layerFigure layer }
+    ensures { result ≡ layer_figure layer }
 {
     match layer {
         Layer::Block => 1,

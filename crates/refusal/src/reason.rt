@@ -58,7 +58,7 @@ impl fmt::Display for Layer {
     }
 }
 
-// Written out, since a derived one of so many cases would promise nothing.
+// Written out, so that its promise is read here: reasons are equal if their numbers are.
 impl PartialEq for Reason {
     ghost eq = { λ a b. (number_of a == number_of b) };
 

@@ -1,5 +1,5 @@
 // Reads a shift book from standard input, and prints its transcript; what a person should know of it
-// goes to standard error.
+// goes to standard error, and the program does its work also where that is closed.
 #![tactic(auto)]
 
 mod ending;
@@ -14,14 +14,16 @@ const ENOUGH: u64 = 131_072;
 
 fn run(rt: &HostRuntime) -> anyhow::Result<()> {
     if rt.stdin().is_terminal() {
-        eprintln!(rt; "shiftbook: waiting for a shift book; to read a file: shiftbook < FILE")?;
+        let _ = eprintln!(rt;
+            "shiftbook: waiting for a shift book; to read a file: shiftbook < FILE"
+        );
     }
     let mut octets = Vec::new(rt.alloc());
     rt.stdin().take(ENOUGH).read_to_end(&mut octets)?;
     let text = transcript(rt.alloc(), &octets)?;
     rt.print(text)?;
     if let Some(advice) = Advice::on(&octets, ending(&octets)) {
-        eprintln!(rt; "shiftbook: {advice}")?;
+        let _ = eprintln!(rt; "shiftbook: {advice}");
     }
     Ok(())
 }

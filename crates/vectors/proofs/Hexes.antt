@@ -1,12 +1,16 @@
 -- How far the reading of hexadecimal text has come.
-use Rattle.std.proofs.Common.{◌≡◌, ℕ, ◌*◌, ◌<◌, List, [], ◌∷◌, ◌++◌, length, sym, refl, ap, ◌∙◌, append_assoc, arith}
-use Rattle.std.proofs.lemmas.List.{flat_map_more}
+use Rattle.std.proofs.Common.{◌≡◌, ℕ, ◌*◌, ◌<◌, List, [], ◌∷◌, ◌++◌, length, sym, refl, ap, ◌∙◌, append_assoc, append-nil, arith}
+use Rattle.std.proofs.lemmas.List.{flat_map_more, nil_from_length}
 use Rattle.vectors.specs.Hex.{pair, hex_text}
 
 -- the octets so far are written before what is left, and if the whole is the text of octets, so is what is left
 pub record Reading (text done left : List ℕ) : Type 0 where
   pub so_far : text ≡ hex_text done ++ left
   pub on : (os : List ℕ) → text ≡ hex_text os → (ys : List ℕ) × (left ≡ hex_text ys)
+
+pub whole : (text done left : List ℕ) → length left ≡ 0 → Reading text done left → text ≡ hex_text done
+whole text done left e r =
+    r.so_far ∙ ap (λ (l : List ℕ). hex_text done ++ l) (nil_from_length left e) ∙ append-nil (hex_text done)
 
 -- what follows the first octet of a text of octets is one too
 past_one : (o : ℕ) (rest ys : List ℕ) → pair o ++ rest ≡ hex_text ys → (zs : List ℕ) × (rest ≡ hex_text zs)

@@ -3,10 +3,10 @@
 # prints nanoseconds per octet and their ratio. It needs rt, rustc and a quiet machine.
 set -euo pipefail
 cd "$(dirname "$0")/.."
-rt staticlib mizkaule > /dev/null
-kit=$(dirname "$(dirname "$(rt doc)")")
+(cd crates/mizkaule && rt lib) > /dev/null
+kit=$(dirname "$(rt doc)")
 built=$(mktemp -d)
 trap 'rm -r "$built"' EXIT
 rustc --edition 2024 -O -o "$built/bench_sign" tools/bench_sign/main.rs \
-    -L target/staticlib -l static=mizkaule -L "$kit/lib" -l static=rattle_c
+    -L crates/mizkaule/out -l static=mizkaule -L "$kit/c" -l static=libc_c
 "$built/bench_sign"

@@ -9,7 +9,7 @@ set -u
 cd "$(dirname "$0")/.." || exit 2
 cc=${CC:-gcc} cxx=${CXX:-g++}
 strict=(-Wall -Wextra -Werror -pedantic -I tools/c_interface)
-wrapped=-Wl,--wrap=malloc,--wrap=free
+wrapped=-Wl,--wrap=malloc,--wrap=realloc,--wrap=free
 built=$(mktemp -d) || exit 2
 trap 'rm -rf "$built"' EXIT
 checks=0 failed=0
@@ -69,9 +69,9 @@ compare() { # SAMPLE
     try "the same from standard input" cmp "$built/expected" "$built/printed"
 }
 
-rt staticlib mizkaule >"$built/log" 2>&1 || { cat "$built/log"; echo 'the archive was not built'; exit 1; }
-kit=$(dirname "$(dirname "$(rt doc)")")
-libraries=(target/staticlib/libmizkaule.a "$kit/lib/librattle_c.a")
+(cd crates/mizkaule && rt lib) >"$built/log" 2>&1 || { cat "$built/log"; echo 'the archive was not built'; exit 1; }
+kit=$(dirname "$(rt doc)")
+libraries=(crates/mizkaule/out/libmizkaule.a "$kit/c/liblibc_c.a")
 
 try 'the test compiles' "$cc" -std=c99 -O2 "${strict[@]}" -o "$built/test" tools/c_interface/test.c \
     "${libraries[@]}" $wrapped

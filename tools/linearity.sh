@@ -4,7 +4,7 @@
 # Each trial below is a function in two forms, which differ in one line: the form marked '+' is correct and must be
 # proved, the form marked '-' must be refused by the compiler's error that is named with the trial, and by no other.
 # All correct forms are built first, together; a refusal counts only if its correct form was proved. Everything happens
-# in a temporary copy of the repository, which takes over what target/ has of crates that are proved already.
+# in a temporary copy of the repository, where rt begins with what it has kept of crates that are proved already.
 #
 # usage: tools/linearity.sh      prints a line for each trial; status 0 if all are refused as named
 set -u
@@ -26,6 +26,7 @@ crate() { # NAME FORM TRIAL...
     mkdir -p "$dir"
     {
         echo '// Trials of what may be done with blocks and presses.'
+        echo '#![tactic(auto)]'
         for item in block::CheckedBlock block::RawBlock block::Setup device::Device host::Button host::Host host::Press \
             machine::Outcome pair::Pair refusal::Refusal signature::SignatureKind std::marker::PhantomData; do
             echo "use $item;"
@@ -182,13 +183,11 @@ END
 
 # ---- the trials
 
-cp -r crates crates.txt "$copy/" || exit 2
-mkdir -p "$copy/target"
-for kept in rlib stamp; do [ ! -d "target/$kept" ] || cp -r "target/$kept" "$copy/target/" || exit 2; done
+git ls-files -z crates crates.txt | xargs -0 cp --parents -t "$copy" || exit 2
 crate correct_forms + "${trials[@]}"
 for name in "${trials[@]}"; do crate "$name" - "$name"; done
 cd "$copy" || exit 2
-rt dev correct_forms >correct.log 2>&1
+(cd crates/correct_forms && rt check) >correct.log 2>&1
 grep -q '^logic=proved' correct.log || grep -h 'error\[' correct.log | cut -c1-300
 
 accepted=0 astray=0
@@ -198,8 +197,8 @@ for i in "${!trials[@]}"; do
         echo "$name: not tried, its correct form is not proved" && astray=$((astray + 1))
         continue
     fi
-    rt dev "$name" >"$name.log" 2>&1 && status=0 || status=$?
-    found=$(grep -o "crates/$name/src/lib.rt:[0-9:]* error\[[a-z0-9-]*\]" "$name.log" | sed 's/.*\[\(.*\)\]/\1/' | sort -u | paste -sd ' ' -)
+    (cd "crates/$name" && rt check) >"$name.log" 2>&1 && status=0 || status=$?
+    found=$(grep -o '^src/lib.rt:[0-9:]* error\[[a-z0-9-]*\]' "$name.log" | sed 's/.*\[\(.*\)\]/\1/' | sort -u | paste -sd ' ' -)
     if [ "$status" -eq 0 ]; then
         echo "$name: ACCEPTED" && accepted=$((accepted + 1))
     elif [ "$found" = "$code" ]; then

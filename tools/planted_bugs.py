@@ -9,7 +9,7 @@ Verdicts: `refused`, a fact is not proved; `tests only`, all is proved and a tes
 `passed`, nothing sees the bug; `unfit`, the edit does not build or a written proof no longer fits it, which says
 nothing, so such a bug is to be reworded. The file of results (--results FILE; results.jsonl beside the bugs) has one JSON
 object to a line, the newest of a label counting, so that a campaign can be run in pieces; --new leaves out the bugs that
-have a result. Run `rt check` first: the copy takes over what target/ has, and is then much faster. RT_JOBS is handed on.
+have a result. Run `rt all check` first: rt begins in the copy with what that kept, and is then much faster.
 
 A file CRATE.bug has the bugs of one crate. Each is four lines `bug: LABEL`, `sort: ..`, `in: PUBLIC FUNCTION`, `file: ..`,
 then a line `old:`, the text to replace, which must stand once in that file, a line `new:`, the new text, and a line `end`.
@@ -20,7 +20,6 @@ import collections
 import contextlib
 import datetime
 import json
-import os
 import pathlib
 import re
 import shutil
@@ -32,7 +31,7 @@ import time
 ROOT = pathlib.Path(__file__).resolve().parent.parent
 BUGS = ROOT / "tools" / "planted_bugs"
 FIELDS = ("bug", "sort", "in", "file")
-COPIED = ("crates", "crates.txt", "samples", "target")
+COPIED = ("crates", "crates.txt")
 VERDICTS = ("refused", "tests only", "passed", "unfit")
 
 Bug = collections.namedtuple("Bug", "label crate sort function file old new")
@@ -45,6 +44,9 @@ BUILD = re.compile(r"^(\S+\.rt:\d+):\d+: error(?:\[([\w-]+)\])?: (.*)")
 PROOF = re.compile(r"^(\S+\.antt:\d+):\d+: error: (.*)")
 FALSE = re.compile(r"no proof of|does not follow|two types (first )?differ|: expected type|give a proof of that")
 BLAMED = re.compile(r"^(?:fn|impl|struct) (\S+): (?:not proved$|no proof: expected)")
+
+# What is printed only where all is proved: that a program starts, and that a test fails.
+RUN = re.compile(r"^(?:rt: running |test result: FAILED)", re.M)
 
 
 # ---- the bugs
@@ -110,7 +112,7 @@ def dependencies(root):
     for line in (root / "crates.txt").read_text().splitlines():
         name, colon, rest = line.partition("#")[0].partition(":")
         if colon:
-            found[name.strip()] = rest.split()
+            found[name.split()[0]] = rest.split()
     return found
 
 
@@ -126,28 +128,29 @@ def above(root, crate):
     return [name for name in deps if name in reached and name != crate]
 
 
+def is_program(root, crate):
+    return (root / "crates" / crate / "src" / "main.rt").exists()
+
+
 def has_runs(root, crate):
     """Whether a crate is a program or a crate of tests."""
-    return crate.endswith("_tests") or (root / "crates" / crate / "src" / "main.rt").exists()
+    return crate.endswith("_tests") or is_program(root, crate)
 
 
 # ---- the copy
 
 def copy_to(folder):
-    """A copy of what the prover reads, with what is proved already."""
-    for name in COPIED:
-        part = ROOT / name
-        if part.is_dir():
-            shutil.copytree(part, folder / name, symlinks=True)
-        elif part.exists():
-            shutil.copy2(part, folder / name)
+    """A copy of what the prover reads, without what rt has kept."""
+    listed = subprocess.run(["git", "ls-files", "-z", *COPIED], cwd=ROOT, stdout=subprocess.PIPE, text=True, check=True)
+    for name in listed.stdout.split("\0")[:-1]:
+        (folder / name).parent.mkdir(parents=True, exist_ok=True)
+        shutil.copy2(ROOT / name, folder / name)
 
 
-def renew_target(folder):
+def forget(folder, bug):
     """Forgets what was proved with a bug in place."""
-    shutil.rmtree(folder / "target", ignore_errors=True)
-    if (ROOT / "target").is_dir():
-        shutil.copytree(ROOT / "target", folder / "target", symlinks=True)
+    for name in [bug.crate, *above(folder, bug.crate)]:
+        shutil.rmtree(folder / "crates" / name / "out", ignore_errors=True)
 
 
 @contextlib.contextmanager
@@ -166,16 +169,25 @@ def planted(folder, bug):
 
 # ---- the prover and what it says
 
-def rt(folder, *words):
-    """One run of rt in the copy: whether it ended well, and all that it printed."""
-    run = subprocess.run(["rt", *words], cwd=folder, env={**os.environ, "RT_CUT": "0"},
+def rt(folder, crate, word):
+    """One run of rt in a crate of the copy: whether it ended well, and all that it printed."""
+    run = subprocess.run(["rt", word], cwd=folder / "crates" / crate, stdin=subprocess.DEVNULL,
                          stdout=subprocess.PIPE, stderr=subprocess.STDOUT, text=True, errors="replace")
     return run.returncode == 0, run.stdout
 
 
-def tail(folder, where):
-    """A file and line without the folder and crate that they stand in."""
-    return re.sub(r"^crates/[^/]+/", "", where.replace(f"{folder}/", ""))
+def rt_run(folder, crate):
+    """The same of a program, which is to print the crate's stdout of its stdin."""
+    at = folder / "crates" / crate
+    with (at / "stdin").open("rb") as given:
+        run = subprocess.run(["rt", "run"], cwd=at, stdin=given, stdout=subprocess.PIPE, stderr=subprocess.PIPE)
+    good = run.returncode == 0 and run.stdout == (at / "stdout").read_bytes()
+    return good, run.stderr.decode(errors="replace")
+
+
+def tail(where):
+    """A file and line below the crate that they stand in."""
+    return re.sub(r"^\./", "", where)
 
 
 def short(text, room=110):
@@ -184,10 +196,10 @@ def short(text, room=110):
     return text if len(text) <= room else text[:room] + ".."
 
 
-def clauses(where):
-    """The labels of the `ensures` of the function around a line of a source."""
+def clauses(at, where):
+    """The labels of the `ensures` of the function around a line of a source of a crate."""
     path, _, line = where.rpartition(":")
-    lines = pathlib.Path(path).read_text().splitlines()
+    lines = (at / path).read_text().splitlines()
     start = int(line) - 1
     while start > 0 and not re.search(r"\bfn \w+", lines[start]):
         start -= 1
@@ -199,10 +211,10 @@ def clauses(where):
     return ", ".join(labels)
 
 
-def clause_at(where):
+def clause_at(at, where):
     """The clause that a line of a written proof is about, if it begins with its label."""
     path, _, line = where.rpartition(":")
-    text = pathlib.Path(path).read_text().splitlines()[int(line) - 1]
+    text = (at / path).read_text().splitlines()[int(line) - 1]
     label = re.match(r"\s*(\w+) = ", text)
     return f" clause {label.group(1)}:" if label else ""
 
@@ -215,12 +227,12 @@ def shown_otherwise(text):
     return f"{short(said)} ({need.strip('`')})"
 
 
-def fact_of(where, text):
+def fact_of(at, where, text):
     """A failed fact in few words: what is not proved, and the name that the prover has for that place."""
     what, _, rest = text.partition(" (`")
     name = rest.partition("`")[0]
     if what == "what the function ensures holds when it returns":
-        what = f"ensures {clauses(where)}".strip()
+        what = f"ensures {clauses(at, where)}".strip()
     return f"{short(what)} ({name})" if name else short(what)
 
 
@@ -230,8 +242,8 @@ def blamed(log):
     return names[0].split("::", 1)[-1] if names else ""
 
 
-def judged(folder, log):
-    """The verdict of a log in which not all is proved."""
+def judged(at, log):
+    """The verdict of a log of the crate in a folder, in which not all is proved."""
     lines = log.splitlines()
     builds = [found for found in map(BUILD.match, lines) if found]
     facts = [found for found in map(FACT.match, lines) if found]
@@ -239,24 +251,30 @@ def judged(folder, log):
     false = [found for found in proofs if FALSE.search(found.group(2))]
     if builds:
         where, code, text = builds[0].groups()
-        return Verdict("unfit", f"{tail(folder, where)}: {code or 'error'}: {short(text)}")
+        return Verdict("unfit", f"{tail(where)}: {code or 'error'}: {short(text)}")
     if facts:
-        return Verdict("refused", f"{blamed(log)}, {tail(folder, facts[0].group(1))}: {fact_of(*facts[0].groups())}")
+        return Verdict("refused", f"{blamed(log)}, {tail(facts[0].group(1))}: {fact_of(at, *facts[0].groups())}")
     if false:
         where, text = false[0].groups()
-        return Verdict("refused", f"{blamed(log)}, {tail(folder, where)}:{clause_at(where)} {shown_otherwise(text)}")
+        return Verdict("refused", f"{blamed(log)}, {tail(where)}:{clause_at(at, where)} {shown_otherwise(text)}")
     if proofs:
-        return Verdict("unfit", f"{tail(folder, proofs[0].group(1))}: {short(proofs[0].group(2))}")
+        return Verdict("unfit", f"{tail(proofs[0].group(1))}: {short(proofs[0].group(2))}")
     return Verdict("unfit", short(lines[-1] if lines else "rt printed nothing"))
 
 
-def run_differs(log):
-    """What a log says of a run that failed, if it has one: the program or the tests, and the first test that failed."""
-    failed = re.search(r"^rt: (\w+) proved, and its (run|tests) FAILED", log, re.M)
-    if not failed:
+def run_differs(crate, log):
+    """What a log says of a run that failed, if it has one: the program, or the first test that failed."""
+    if not RUN.search(log):
         return None
     test = re.search(r"^test (\S+) \.\.\. FAILED", log, re.M)
-    return f"{failed.group(1)}: {test.group(1) if test else 'its ' + failed.group(2)}"
+    return f"{crate}: {test.group(1) if test else 'its run'}"
+
+
+def tried(folder, crate):
+    """One try of a crate: a program is run, the tests of a crate of tests are, and any other crate is checked."""
+    if is_program(folder, crate):
+        return rt_run(folder, crate)
+    return rt(folder, crate, "test" if has_runs(folder, crate) else "check")
 
 
 def seen_above(folder, bug, keep):
@@ -265,25 +283,25 @@ def seen_above(folder, bug, keep):
     libraries = [name for name in higher if not has_runs(folder, name)]
     runs = [name for name in [bug.crate, *higher] if has_runs(folder, name)]
     for name in libraries + runs:
-        good, log = rt(folder, "check", name)
+        good, log = tried(folder, name)
         keep(log)
         if good:
             continue
-        differs = run_differs(log)
+        differs = run_differs(name, log)
         if differs:
             return Verdict("tests only", differs)
-        verdict = judged(folder, log)
+        verdict = judged(folder / "crates" / name, log)
         return Verdict(verdict.word, f"above, in {name}: {verdict.detail}")
     return Verdict("passed", "")
 
 
 def try_bug(folder, bug, keep):
     with planted(folder, bug):
-        good, log = rt(folder, "dev", bug.crate)
+        good, log = rt(folder, bug.crate, "check")
         keep(log)
-        verdict = seen_above(folder, bug, keep) if good else judged(folder, log)
+        verdict = seen_above(folder, bug, keep) if good else judged(folder / "crates" / bug.crate, log)
     if good:
-        renew_target(folder)
+        forget(folder, bug)
     return verdict
 
 

@@ -1,6 +1,6 @@
 /* The coupler for C: judging a parameter block, signing, fitting, and replaying a shift book into the caller's buffer.
  *
- * Link libmizkaule.a and after it librattle_c.a; docs/EMBEDDING.md says how. Call the four functions at the end of this
+ * Link libmizkaule.a and after it liblibc_c.a; docs/EMBEDDING.md says how. Call the four functions at the end of this
  * file. They look at pointers and lengths first, and then call the proved functions mizkaule_raw_*, which do not.
  */
 #ifndef MIZKAULE_H
@@ -20,7 +20,7 @@ enum mizkaule_status {
     MIZKAULE_DONE = 0,        /* done */
     MIZKAULE_REFUSED = 1,     /* refused: number, layer and place say why and where */
     MIZKAULE_NO_SUCH = 2,     /* the kind is none of the three, or the number is above FFFFFFh */
-    MIZKAULE_NO_MEMORY = 3,   /* malloc gave no memory; only the replay answers this */
+    MIZKAULE_NO_MEMORY = 3,   /* malloc or realloc gave no memory; only the replay answers this */
     MIZKAULE_BAD_POINTER = 4  /* a pointer or a length cannot be right: nothing was called */
 };
 
@@ -226,7 +226,7 @@ static inline struct mizkaule_answer mizkaule_fits(
  * that the buffer needs; with so many the same book is done. All of the buffer is as it was.
  * NO_MEMORY: size is 0, and all of the buffer is as it was.
  *
- * The text is made in memory from malloc, which is freed before the function returns. */
+ * The text is made in memory from malloc and realloc, which is freed before the function returns. */
 static inline struct mizkaule_answer mizkaule_replay(
     const uint8_t *book, size_t book_size, uint8_t *text, size_t text_size)
 {

@@ -1,7 +1,7 @@
 /* The test of the C interface: known figures, limits, refusals, and pointers that are turned down.
  *
  * The last line is "N checks, M failed"; status 1 if M is not 0. With an argument it only prints the eighteen reasons.
- * It is linked with --wrap=malloc and --wrap=free, so that it can count memory and withhold it.
+ * It is linked with --wrap=malloc, --wrap=realloc and --wrap=free, so that it can count memory and withhold it.
  */
 #include "mizkaule.h"
 
@@ -30,6 +30,7 @@ static long asked;
 static long held;
 
 void *__real_malloc(size_t size);
+void *__real_realloc(void *memory, size_t size);
 void __real_free(void *memory);
 
 void *__wrap_malloc(size_t size)
@@ -38,6 +39,14 @@ void *__wrap_malloc(size_t size)
     asked++;
     held += memory != NULL;
     return memory;
+}
+
+void *__wrap_realloc(void *memory, size_t size)
+{
+    void *moved = withheld ? NULL : __real_realloc(memory, size);
+    asked++;
+    held += memory == NULL && moved != NULL;
+    return moved;
 }
 
 void __wrap_free(void *memory)

@@ -27,7 +27,7 @@ crate() { # NAME FORM TRIAL...
     {
         echo '// Trials of what may be done with blocks and presses.'
         echo '#![tactic(auto)]'
-        for item in block::CheckedBlock block::RawBlock block::Setup device::Device host::Button host::Host host::Press \
+        for item in block::CheckedBlock block::Own block::RawBlock block::Setup device::Device host::Button host::Host host::Press \
             machine::Outcome pair::Pair refusal::Refusal signature::SignatureKind std::marker::PhantomData; do
             echo "use $item;"
         done
@@ -40,21 +40,21 @@ crate() { # NAME FORM TRIAL...
 
 trial unchecked_block_starts_host mismatched-types <<'END'
 pub fn unchecked_block_starts_host<K: SignatureKind>(raw: RawBlock<'_>) -> Result<Host<K>, Refusal> {
-+   Ok(Host::start(raw.check::<K>((2, 3), (0, 0))?))
++   Ok(Host::start(raw.check::<K>(Own { address: 2, rank: 3, out_len: 0, in_len: 0 })?))
 -   Ok(Host::start(raw))
 }
 END
 
 trial unchecked_block_starts_device mismatched-types <<'END'
 pub fn unchecked_block_starts_device<K: SignatureKind>(raw: RawBlock<'_>) -> Result<Device<K>, Refusal> {
-+   Ok(Device::start(raw.check::<K>((2, 3), (0, 0))?))
++   Ok(Device::start(raw.check::<K>(Own { address: 2, rank: 3, out_len: 0, in_len: 0 })?))
 -   Ok(Device::start(raw))
 }
 END
 
 trial unchecked_block_starts_pair mismatched-types <<'END'
 pub fn unchecked_block_starts_pair<K: SignatureKind>(one: CheckedBlock<K>, raw: RawBlock<'_>) -> Result<Pair<K, K>, Refusal> {
-+   Ok(Pair::start(one, raw.check::<K>((2, 3), (0, 0))?))
++   Ok(Pair::start(one, raw.check::<K>(Own { address: 2, rank: 3, out_len: 0, in_len: 0 })?))
 -   Ok(Pair::start(one, raw))
 }
 END
@@ -68,7 +68,7 @@ END
 
 trial block_by_literal private-field <<'END'
 pub fn block_by_literal<K: SignatureKind>(raw: RawBlock<'_>, setup: Setup) -> Result<CheckedBlock<K>, Refusal> {
-+   raw.check::<K>((2, 3), (usize::from(setup.out_len), usize::from(setup.in_len)))
++   raw.check::<K>(Own { address: 2, rank: 3, out_len: usize::from(setup.out_len), in_len: usize::from(setup.in_len) })
 -   Ok(CheckedBlock { setup, kind: PhantomData })
 }
 END

@@ -54,7 +54,7 @@ lowest cs (Err x) h =
 
 pub in_order : ChecksInOrder
 unfolding Numbered
-in_order width limit o own lengths =
-    let cs = conditions width limit o own lengths in
+in_order width limit o own =
+    let cs = conditions width limit o own in
     let numbered : Numbered 1 cs = (refl, (refl, (refl, (refl, (refl, (refl, (refl, (refl, (refl, tt))))))))) in
-    lowest cs (checked width limit o own lengths) (first cs 1 numbered (wrong_flag o) (setup_of o lengths))
+    lowest cs (checked width limit o own) (first cs 1 numbered (wrong_flag o) (setup_of o own))

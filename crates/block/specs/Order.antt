@@ -3,6 +3,7 @@ use Rattle.std.specs.Prelude.{◌≡◌, ℕ, ◌-◌, ◌<◌, Bool, true, fals
 use Rattle.refusal.specs.declared.reason.Reason.{Reason}
 use Rattle.refusal.specs.declared.refused.Refusal.{Refusal}
 use Rattle.refusal.specs.Reasons.{number_of}
+use Rattle.block.specs.declared.setup.Own.{Own}
 use Rattle.block.specs.declared.setup.Setup.{Setup}
 use Rattle.block.specs.Checks.{conditions, checked}
 
@@ -18,5 +19,5 @@ Lowest cs (Err x) =
     (holds cs (number_of x.reason) ≡ false) × ((n : ℕ) → 0 < n → n < number_of x.reason → holds cs n ≡ true)
 
 abbrev pub ChecksInOrder : Type 0
-ChecksInOrder = (width limit : ℕ) (o : List ℕ) (own lengths : ℕ × ℕ)
-    → Lowest (conditions width limit o own lengths) (checked width limit o own lengths)
+ChecksInOrder = (width limit : ℕ) (o : List ℕ) (own : Own)
+    → Lowest (conditions width limit o own) (checked width limit o own)

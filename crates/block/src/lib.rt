@@ -7,4 +7,4 @@ mod setup;
 
 pub use block::{CheckedBlock, RawBlock, checks_in_order};
 pub use par::par_crc;
-pub use setup::Setup;
+pub use setup::{Own, Setup};

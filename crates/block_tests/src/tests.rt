@@ -1,5 +1,5 @@
 // Blocks at the limits of each field: which are accepted, and which refusal the others get.
-use block::{RawBlock, Setup, par_crc};
+use block::{Own, RawBlock, Setup, par_crc};
 use kinds::{C3, S3, S4};
 use signature::SignatureKind;
 use std::process::Abort;
@@ -13,21 +13,26 @@ const FIRST: [u8; 8] = [0x08, 0x40, 0x00, 0x01, 0x00, 0x02, 0x00, 0x64];
 
 const WHOLE: [u8; 10] = [0x08, 0x40, 0x00, 0x01, 0x00, 0x02, 0x00, 0x64, 0xc3, 0x57];
 
-// The end's own address and SIL rank.
-const OWN: (u16, u8) = (2, 3);
-
-fn refusal_of<K: SignatureKind>(octets: &[u8], own: (u16, u8), lengths: (usize, usize)) -> Refused {
-    match (RawBlock { octets }).check::<K>(own, lengths) {
-        Ok(_) => None,
-        Err(refusal) => Some((refusal.reason.number(), refusal.place)),
+// An end of this address, SIL rank and data octets.
+fn end(address: u16, rank: u8, out_len: usize, in_len: usize) -> Own {
+    Own {
+        address,
+        rank,
+        out_len,
+        in_len,
     }
 }
 
+fn refusal_of<K: SignatureKind>(octets: &[u8], own: Own) -> Refused {
+    let refusal = (RawBlock { octets }).check::<K>(own).err()?;
+    Some((refusal.reason.number(), refusal.place))
+}
+
 // Checks a block of the eight octets and the check value that belongs to them.
-fn sealed<K: SignatureKind>(first: [u8; 8], own: (u16, u8), lengths: (usize, usize)) -> Refused {
+fn sealed<K: SignatureKind>(first: [u8; 8], own: Own) -> Refused {
     let [high, low] = par_crc(&first).to_be_bytes();
     let [a, b, c, d, e, f, g, h] = first;
-    refusal_of::<K>(&[a, b, c, d, e, f, g, h, high, low], own, lengths)
+    refusal_of::<K>(&[a, b, c, d, e, f, g, h, high, low], own)
 }
 
 #[test]
@@ -51,7 +56,7 @@ fn flags(rt: HostRuntime) {
     ];
     for (flag1, flag2, refused) in &cases {
         let first = [*flag1, *flag2, 0, 1, 0, 2, 0, 100];
-        assert_eq!(rt; sealed::<S3>(first, OWN, (0, 0)), *refused);
+        assert_eq!(rt; sealed::<S3>(first, end(2, 3, 0, 0)), *refused);
     }
 }
 
@@ -75,7 +80,7 @@ fn addresses_and_watch_time(rt: HostRuntime) {
         let [c, d] = u16::to_be_bytes(*destination);
         let [e, f] = u16::to_be_bytes(*watch);
         let first = [0x08, 0x40, a, b, c, d, e, f];
-        assert_eq!(rt; sealed::<S3>(first, (*own, 3), (0, 0)), *refused);
+        assert_eq!(rt; sealed::<S3>(first, end(*own, 3, 0, 0)), *refused);
     }
 }
 
@@ -92,15 +97,15 @@ fn ranks(rt: HostRuntime) {
     ];
     for (flag1, own, refused) in &cases {
         let first = [*flag1, 0x40, 0, 1, 0, 2, 0, 100];
-        assert_eq!(rt; sealed::<S3>(first, (2, *own), (0, 0)), *refused);
+        assert_eq!(rt; sealed::<S3>(first, end(2, *own, 0, 0)), *refused);
     }
 }
 
 // Under one kind: the flag octet, the lengths and the refusal.
 fn widths<K: SignatureKind>(rt: &impl Abort, cases: &[(u8, (usize, usize), Refused)]) {
-    for (flag1, lengths, refused) in cases {
+    for (flag1, (out_len, in_len), refused) in cases {
         let first = [*flag1, 0x40, 0, 1, 0, 2, 0, 100];
-        assert_eq!(rt; sealed::<K>(first, OWN, *lengths), *refused);
+        assert_eq!(rt; sealed::<K>(first, end(2, 3, *out_len, *in_len)), *refused);
     }
 }
 
@@ -137,17 +142,17 @@ fn widths_and_limits(rt: HostRuntime) {
 // Each block has the fault of its line and the later ones.
 #[test]
 fn lower_number_first(rt: HostRuntime) {
-    assert_eq!(rt; refusal_of::<S3>(&[], (2, 2), (13, 13)), Some((1, 0)));
+    assert_eq!(rt; refusal_of::<S3>(&[], end(2, 2, 13, 13)), Some((1, 0)));
     assert_eq!(rt;
-        refusal_of::<S3>(&[0x5a; 9], (2, 2), (13, 13)),
+        refusal_of::<S3>(&[0x5a; 9], end(2, 2, 13, 13)),
         Some((1, 0))
     );
     assert_eq!(rt;
-        refusal_of::<S3>(&[0x5a; 11], (2, 2), (13, 13)),
+        refusal_of::<S3>(&[0x5a; 11], end(2, 2, 13, 13)),
         Some((1, 0))
     );
     assert_eq!(rt;
-        refusal_of::<S3>(&[0x5a; 10], (2, 2), (13, 13)),
+        refusal_of::<S3>(&[0x5a; 10], end(2, 2, 13, 13)),
         Some((2, 8))
     );
     let cases = [
@@ -161,7 +166,7 @@ fn lower_number_first(rt: HostRuntime) {
         ([0x18, 0x40, 0, 1, 0, 2, 0, 1], 3, (9, 0)),
     ];
     for (first, own, refused) in &cases {
-        assert_eq!(rt; sealed::<S3>(*first, (2, *own), (13, 13)), Some(*refused));
+        assert_eq!(rt; sealed::<S3>(*first, end(2, *own, 13, 13)), Some(*refused));
     }
 }
 
@@ -169,17 +174,17 @@ fn lower_number_first(rt: HostRuntime) {
 fn check_values(rt: HostRuntime) {
     assert_eq!(rt; par_crc(&FIRST), 0xc357);
     assert_eq!(rt; par_crc(&[]), 0);
-    assert_eq!(rt; refusal_of::<S3>(&WHOLE, OWN, (0, 0)), None);
+    assert_eq!(rt; refusal_of::<S3>(&WHOLE, end(2, 3, 0, 0)), None);
     let mut wrong = WHOLE;
     wrong[9] = 0x56;
-    assert_eq!(rt; refusal_of::<S3>(&wrong, OWN, (0, 0)), Some((2, 8)));
+    assert_eq!(rt; refusal_of::<S3>(&wrong, end(2, 3, 0, 0)), Some((2, 8)));
     let zero = [0x08, 0x40, 0x00, 0x01, 0x00, 0x02, 0xde, 0x03, 0x00, 0x00];
-    assert_eq!(rt; refusal_of::<S3>(&zero, OWN, (0, 0)), None);
+    assert_eq!(rt; refusal_of::<S3>(&zero, end(2, 3, 0, 0)), None);
 }
 
 #[test]
 fn accepted_setup(rt: HostRuntime) -> Result<(), Fail> {
-    let block = (RawBlock { octets: &WHOLE }).check::<S3>(OWN, (12, 5))?;
+    let block = (RawBlock { octets: &WHOLE }).check::<S3>(end(2, 3, 12, 5))?;
     let due = Setup {
         crc: 0xc357,
         watch: 100,

@@ -1,3 +1,5 @@
+#![tactic(auto)]
+
 // Examples of books, as tests: reading, refusing at every edge, writing, and the text.
 #[cfg(test)]
 mod reading;

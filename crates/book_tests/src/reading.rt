@@ -6,7 +6,8 @@ use std::test::Fail;
 const WORKED: &[u8] =
     b"\x01\x00\x0d\x01\x00\x00\x08\x40\x00\x01\x00\x02\x00\x64\xc3\x57\x00\x02\x02\x00\x00\x05\x03\x14\xbe\xa3\x1f\x00\x02\x04\x00\x00\x05\x05\x50\xa1\x0c\x1e";
 
-// How many records there are, and then the number and the place of the refusal, or 0 and the size.
+// How many records there are, and then the number and the place of the refusal, or 0 and the size. They
+// are counted by hand, since what ends the reading is told beside them.
 fn reading(octets: &[u8]) -> (usize, u8, usize) {
     let mut records = 0usize;
     let book = match Book::open(octets) {
@@ -112,6 +113,30 @@ fn each_kind_takes_its_lengths(rt: HostRuntime) {
 }
 
 #[test]
+fn each_octet_stands_for_its_kind(rt: HostRuntime) -> Result<(), Fail> {
+    let table = [
+        (1, "block"),
+        (2, "host-offer"),
+        (3, "to-device"),
+        (4, "device-offer"),
+        (5, "to-host"),
+        (6, "host-ticks"),
+        (7, "device-ticks"),
+        (8, "button"),
+    ];
+    for (octet, word) in table {
+        let kind = Kind::try_from(octet)?;
+        assert_eq!(rt; u8::from(kind), octet);
+        let printed = format!(in rt.alloc(); "{kind}")?;
+        assert_eq!(rt; printed.as_str(), word);
+    }
+    let unknown = Kind::try_from(9).err().ok_or("a ninth kind")?;
+    let printed = format!(in rt.alloc(); "{unknown}")?;
+    assert_eq!(rt; printed.as_str(), "no kind of record has the octet 9");
+    Ok(())
+}
+
+#[test]
 fn the_largest_book_and_one_octet_more(rt: HostRuntime) -> Result<(), Fail> {
     let mut octets = vec![in rt.alloc(); 0u8; 65_536]?;
     assert!(rt; octets.len() == 65_536);
@@ -129,11 +154,7 @@ fn the_largest_book_and_one_octet_more(rt: HostRuntime) -> Result<(), Fail> {
 
 #[test]
 fn a_refusal_names_its_layer(rt: HostRuntime) -> Result<(), Fail> {
-    match Book::open(b"") {
-        Ok(_) => Err(Fail::new("opened")),
-        Err(refusal) => {
-            assert_eq!(rt; refusal.reason.layer(), Layer::Book);
-            Ok(())
-        },
-    }
+    let refusal = Book::open(b"").err().ok_or("opened")?;
+    assert_eq!(rt; refusal.reason.layer(), Layer::Book);
+    Ok(())
 }

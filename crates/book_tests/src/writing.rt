@@ -43,13 +43,9 @@ fn a_refusal_writes_nothing(rt: HostRuntime) -> Result<(), Fail> {
     assert_eq!(rt; writer.size(), 5);
     assert_eq!(rt; &out, &[1, 0, 2, 2, 0, 9, 9, 9]);
     let mut none = [0u8; 0];
-    match Writer::begin(&mut none) {
-        Ok(_) => Err(Fail::new("begun in no buffer")),
-        Err(refusal) => {
-            assert_eq!(rt; (refusal.reason.number(), refusal.place), (13, 0));
-            Ok(())
-        },
-    }
+    let refusal = Writer::begin(&mut none).err().ok_or("begun in no buffer")?;
+    assert_eq!(rt; (refusal.reason.number(), refusal.place), (13, 0));
+    Ok(())
 }
 
 fn grow_to_the_limit(rt: &impl Abort, out: &mut [u8], body: &[u8]) -> Result<(), Fail> {
@@ -79,14 +75,8 @@ fn write_all(rt: &impl Abort, out: &mut [u8], records: &[Record<'_>]) -> Result<
     Ok(writer.size())
 }
 
-fn read_all(
-    rt: &impl Abort,
-    octets: &[u8],
-    size: usize,
-    records: &[Record<'_>],
-) -> Result<(), Fail> {
-    assert!(rt; size <= octets.len());
-    let mut book = Book::open(&octets[0..size])?;
+fn read_all(rt: &impl Abort, octets: &[u8], records: &[Record<'_>]) -> Result<(), Fail> {
+    let mut book = Book::open(octets)?;
     for record in records {
         let placed = book.next().ok_or("too few records")??;
         assert_eq!(rt; placed.record.kind(), record.kind());
@@ -110,5 +100,6 @@ fn what_was_written_is_read(rt: HostRuntime) -> Result<(), Fail> {
     ];
     let mut out = [0u8; 64];
     let size = write_all(&rt, &mut out, &records)?;
-    read_all(&rt, &out, size, &records)
+    let octets = out.get(..size).ok_or("more octets than there is room for")?;
+    read_all(&rt, octets, &records)
 }

@@ -2,9 +2,11 @@
 #![tactic(auto)]
 
 ghost use Rattle.std.specs.Prelude.{◌≡◌};
+ghost use Rattle.std.specs.Option.{option_map};
 ghost use Rattle.signature.specs.Numbers.{numeral};
 ghost use Rattle.machine.specs.DeviceEnd.{device_started};
-ghost use Rattle.device.specs.View.{device_view};
+ghost use Rattle.frame.specs.Held.{framed};
+ghost use Rattle.device.specs.View.{DeviceEnd};
 
 mod fault;
 mod offer;
@@ -16,7 +18,7 @@ use block::{CheckedBlock, Setup};
 use frame::Frame;
 use machine::{Cause, DevicePhase};
 use signature::{Number, SignatureKind};
-use std::marker::PhantomData;
+use std::marker::{Model, PhantomData};
 
 // In run it keeps the answer of its present number once it is composed, and the host frame that it
 // took last. It is neither copied nor cloned: a block starts one device.
@@ -33,22 +35,26 @@ pub struct Device<K: SignatureKind> {
     kind: PhantomData<K>,
 }
 
+impl<K: SignatureKind> Model for Device<K> {
+    ghost Value = { DeviceEnd };
+
+    ghost view = { λ d. record { setup = d.setup; state = record { phase = d.phase; number = numeral d.number; toggle = d.toggle; ticks = d.ticks; kept = option_map framed d.kept; frame = option_map framed d.frame; cause = d.cause } } };
+}
+
 impl<K: SignatureKind> Device<K> {
     // Starts a device from a checked block, which is used up.
     pub fn start(checked: CheckedBlock<K>) -> Device<K>
-        ensures view { device_view result ≡ device_started }
-        ensures setup { result.setup ≡ checked.setup }
+        ensures { result ≡ record { setup = checked.setup; state = device_started } }
     {
-        Device::started(checked.into_setup())
+        Device::at_zero(checked.into_setup(), DevicePhase::Waiting)
     }
 
-    // A device that waits for a restart frame.
-    fn started(setup: Setup) -> Device<K>
-        ensures view { device_view result ≡ device_started }
-        ensures setup { result.setup ≡ setup }
+    // A device that has number 0 and has noted no fault.
+    fn at_zero(setup: Setup, phase: DevicePhase) -> Device<K>
+        ensures { result ≡ record { setup = setup; state = record device_started { phase = phase } } }
     {
         Device {
-            phase: DevicePhase::Waiting,
+            phase,
             number: Number::zero(),
             toggle: false,
             ticks: 0,
@@ -61,21 +67,21 @@ impl<K: SignatureKind> Device<K> {
     }
 
     pub fn phase(&self) -> DevicePhase
-        ensures { result ≡ (device_view self.now).phase }
+        ensures { result ≡ self.now.state.phase }
     {
         self.phase
     }
 
     // The number of the frame that was taken last, 0 after a restart.
     pub fn number(&self) -> Number
-        ensures { numeral result ≡ (device_view self.now).number }
+        ensures { numeral result ≡ self.now.state.number }
     {
         self.number
     }
 
     // The fault that the device noted last; Start if it noted none since its start or last restart.
     pub fn cause(&self) -> Cause
-        ensures { result ≡ (device_view self.now).cause }
+        ensures { result ≡ self.now.state.cause }
     {
         self.cause
     }

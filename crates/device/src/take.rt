@@ -1,24 +1,16 @@
 // Frames handed in: how the device judges them, and what it does with them.
 ghost use Rattle.std.specs.Prelude.{◌≡◌};
 ghost use Rattle.signature.specs.Numbers.{numeral};
-ghost use Rattle.machine.specs.DeviceEnd.{asks_restart, device_fits, device_held_against, device_judged, device_take_answer, device_take_next, turns_toggle};
-ghost use Rattle.device.specs.View.{device_view};
+ghost use Rattle.machine.specs.DeviceEnd.{asks_restart, device_held_against, device_judged, device_take_answer, device_take_next, turns_toggle};
 
 use crate::Device;
 use frame::control::{R_CONS_NR, TOGGLE_H};
-use frame::{Frame, has, octet_at};
+use frame::{Frame, check_length, has, octet_at};
 use machine::{Cause, DeviceJudged, DevicePhase, Outcome};
-use refusal::{Reason, Refusal};
-use signature::{Number, SignatureKind, fits};
+use refusal::Refusal;
+use signature::{Number, SignatureKind};
 
 impl<K: SignatureKind> Device<K> {
-    // Whether a host frame fits a number.
-    fn fits_number(&self, number: Number, frame: &[u8]) -> bool
-        ensures { result ≡ device_fits K.SignatureKind.model self.now.setup (numeral number) frame.now }
-    {
-        fits::<K>(self.setup.crc, number, frame)
-    }
-
     fn asks_restart(&self, frame: &[u8]) -> bool
         ensures { result ≡ asks_restart self.now.setup frame.now }
     {
@@ -26,7 +18,7 @@ impl<K: SignatureKind> Device<K> {
     }
 
     fn turns_toggle(&self, frame: &[u8]) -> bool
-        ensures { result ≡ turns_toggle self.now.setup (device_view self.now) frame.now }
+        ensures { result ≡ turns_toggle self.now.setup self.now.state frame.now }
     {
         has(octet_at(frame, usize::from(self.setup.out_len)), TOGGLE_H) != self.toggle
     }
@@ -34,7 +26,7 @@ impl<K: SignatureKind> Device<K> {
     // The number that a frame is held against: 0 if it asks for a restart, the next one if its
     // toggle has turned, else the present one.
     fn held_against(&self, frame: &[u8]) -> Number
-        ensures { numeral result ≡ device_held_against self.now.setup (device_view self.now) frame.now }
+        ensures { numeral result ≡ device_held_against self.now.setup self.now.state frame.now }
     {
         if self.asks_restart(frame) {
             Number::zero()
@@ -47,9 +39,13 @@ impl<K: SignatureKind> Device<K> {
 
     // What a frame is to the device.
     fn judge(&self, frame: &[u8]) -> DeviceJudged
-        ensures { result ≡ device_judged K.SignatureKind.model self.now.setup (device_view self.now) frame.now }
+        ensures { result ≡ device_judged K.SignatureKind.model self.now.setup self.now.state frame.now }
     {
-        if !self.fits_number(self.held_against(frame), frame) {
+        if !self
+            .setup
+            .signing(self.held_against(frame))
+            .fits::<K>(frame)
+        {
             DeviceJudged::Unfit
         } else if self.asks_restart(frame) {
             DeviceJudged::Zero
@@ -62,13 +58,10 @@ impl<K: SignatureKind> Device<K> {
 
     // A frame handed in, if it is as long as a host frame. A new one is taken.
     pub fn take(&mut self, frame: &[u8]) -> Result<Outcome, Refusal>
-        ensures answer { result ≡ device_take_answer K.SignatureKind.model self.old.setup (device_view self.old) frame.now }
-        ensures next { device_view self.new ≡ device_take_next K.SignatureKind.model self.old.setup (device_view self.old) frame.now }
-        ensures setup { self.new.setup ≡ self.old.setup }
+        ensures answer { result ≡ device_take_answer K.SignatureKind.model self.old.setup self.old.state frame.now }
+        ensures next { self.new ≡ record self.old { state = device_take_next K.SignatureKind.model self.old.setup self.old.state frame.now } }
     {
-        if frame.len() != usize::from(self.setup.out_len) + 1 + K::width() {
-            return Err(Refusal::at(Reason::FrameLength, 0));
-        }
+        check_length::<K>(frame, self.setup.out_len)?;
         match (self.phase, self.judge(frame)) {
             (DevicePhase::Waiting, DeviceJudged::Zero) => {
                 self.restart();

@@ -1,5 +1,5 @@
 // A bench for the tests: both ends, a button, and the frame that was last on each line.
-use block::{CheckedBlock, RawBlock, par_crc};
+use block::{CheckedBlock, Own, RawBlock, par_crc};
 use device::Device;
 use host::{Button, Host};
 use machine::Outcome;
@@ -11,7 +11,7 @@ mod edges;
 mod pairs;
 mod shifts;
 
-// A step of a shift. A damaged frame has one bit turned.
+// A step of a shift, as data, so that tables hold them. A damaged frame has one bit turned.
 #[derive(Clone, Copy)]
 enum Step {
     HostOffer([u8; 2], u8),
@@ -25,7 +25,8 @@ enum Step {
     Button(u8),
 }
 
-// Two data octets out, three in.
+// Two data octets out, three in. The lines are buffers as a caller lends them: longer than a frame, which stands at the
+// front.
 #[derive(Drop)]
 struct Bench<K: SignatureKind> {
     host: Host<K>,
@@ -80,10 +81,22 @@ fn follow<K: SignatureKind>(rt: &impl Abort, bench: &mut Bench<K>, rows: &[Row])
 
 // The octets at the front, as many as there are if the count is above that.
 fn first(octets: &[u8], count: usize) -> &[u8] {
-    if count < octets.len() {
-        &octets[0..count]
-    } else {
-        octets
+    &octets[..count.min(octets.len())]
+}
+
+// A frame with one bit of its first octet turned.
+fn damaged(mut octets: [u8; 12], bit: u8) -> [u8; 12] {
+    octets[0] ^= bit;
+    octets
+}
+
+// An end of two data octets out and three in.
+fn end(address: u16, rank: u8) -> Own {
+    Own {
+        address,
+        rank,
+        out_len: 2,
+        in_len: 3,
     }
 }
 
@@ -91,7 +104,7 @@ fn first(octets: &[u8], count: usize) -> &[u8] {
 fn checked<K: SignatureKind>(flag1: u8) -> Result<CheckedBlock<K>, Refusal> {
     let [high, low] = par_crc(&[flag1, 0x40, 0, 1, 0, 2, 0, 100]).to_be_bytes();
     let octets = [flag1, 0x40, 0, 1, 0, 2, 0, 100, high, low];
-    (RawBlock { octets: &octets }).check::<K>((2, 3), (2, 3))
+    (RawBlock { octets: &octets }).check::<K>(end(2, 3))
 }
 
 impl<K: SignatureKind> Bench<K> {
@@ -105,18 +118,6 @@ impl<K: SignatureKind> Bench<K> {
         })
     }
 
-    fn damaged_to_device(&mut self) -> Result<Outcome, Refusal> {
-        let mut octets = self.to_device;
-        octets[0] = octets[0] ^ 1;
-        self.device.take(first(&octets, 3 + K::width()))
-    }
-
-    fn damaged_to_host(&mut self) -> Result<Outcome, Refusal> {
-        let mut octets = self.to_host;
-        octets[0] = octets[0] ^ 128;
-        self.host.take(first(&octets, 4 + K::width()))
-    }
-
     fn pressed(&mut self, reading: u8) -> Result<Outcome, Refusal> {
         let press = self.button.read(reading)?;
         self.host.press(press)
@@ -126,12 +127,18 @@ impl<K: SignatureKind> Bench<K> {
         said(match step {
             Step::HostOffer(values, wish) => self.host.offer(&values, wish, &mut self.to_device),
             Step::ToDevice => self.device.take(first(&self.to_device, 3 + K::width())),
-            Step::DamagedToDevice => self.damaged_to_device(),
+            Step::DamagedToDevice => {
+                let octets = damaged(self.to_device, 1);
+                self.device.take(first(&octets, 3 + K::width()))
+            }
             Step::DeviceOffer(values, flags) => {
                 self.device.offer(&values, flags, &mut self.to_host)
             }
             Step::ToHost => self.host.take(first(&self.to_host, 4 + K::width())),
-            Step::DamagedToHost => self.damaged_to_host(),
+            Step::DamagedToHost => {
+                let octets = damaged(self.to_host, 128);
+                self.host.take(first(&octets, 4 + K::width()))
+            }
             Step::HostTicks(ticks) => self.host.tick(ticks),
             Step::DeviceTicks(ticks) => self.device.tick(ticks),
             Step::Button(reading) => self.pressed(reading),

@@ -8,23 +8,17 @@ ghost use Rattle.frame.specs.Held.{framed};
 
 use crate::octets::{append_at, first, octet_at, write_front};
 use refusal::{Reason, Refusal};
-use signature::{Number, SignatureKind, sign};
+use signature::{SignatureKind, Signing};
 
 // The most octets of a frame: 255 of data, the control or status octet and a signature of four.
 const ROOM: usize = 260;
 
-// The octets from `size` on are no part of the frame.
+// The octets from `size` on are no part of the frame. An array and a size, because an end keeps no heap memory and
+// callers copy frames: the library's ArrayVec is not Copy.
 #[derive(Clone, Copy)]
 pub struct Frame {
     octets: [u8; ROOM],
     size: usize,
-}
-
-fn blank() -> [u8; ROOM]
-    ensures zeros { (n : ℕ) → n ≤ 260 → take n result ≡ replicate n 0 }
-    ensures size { (n : ℕ) → n ≤ 260 → length (take n result) ≡ n }
-{
-    [0; ROOM]
 }
 
 impl Frame {
@@ -34,8 +28,8 @@ impl Frame {
         ensures size { length (framed result) ≡ count }
     {
         Frame {
-            octets: blank(),
             size: usize::from(count),
+            octets: [0; ROOM],
         }
     }
 
@@ -58,34 +52,15 @@ impl Frame {
         self.push(octets);
     }
 
-    // Data and an octet, signed under a block's check value and a number; of more than 255 octets
-    // of data the first 255.
-    pub fn compose<K: SignatureKind>(crc: u16, number: Number, values: &[u8], octet: u8) -> Frame
-        ensures front { framed result ≡ composed K.SignatureKind.model crc (numeral number) (take 255 values.now) octet }
-        ensures whole { length values.now ≤ 255 → framed result ≡ composed K.SignatureKind.model crc (numeral number) values.now octet }
-    {
-        Frame::unsigned(values, octet).signed::<K>(crc, number)
-    }
-
-    // At most 255 octets of data, and an octet.
-    fn unsigned(values: &[u8], octet: u8) -> Frame
-        ensures front { framed result ≡ take 255 values.now ++ octet ∷ [] }
-        ensures whole { length values.now ≤ 255 → framed result ≡ values.now ++ octet ∷ [] }
-        ensures few { length (framed result) ≤ 256 }
+    // Data and an octet, signed; of more than 255 octets of data the first 255.
+    pub fn compose<K: SignatureKind>(signing: Signing, values: &[u8], octet: u8) -> Frame
+        ensures front { framed result ≡ composed K.SignatureKind.model signing.crc (numeral signing.number) (take 255 values.now) octet }
+        ensures whole { length values.now ≤ 255 → framed result ≡ composed K.SignatureKind.model signing.crc (numeral signing.number) values.now octet }
     {
         let mut frame = Frame::of(first(values, 255));
         frame.push(&[octet]);
-        frame
-    }
-
-    // The frame with its signature.
-    fn signed<K: SignatureKind>(self, crc: u16, number: Number) -> Frame
-        requires { length (framed self) ≤ 256 }
-        ensures { framed result ≡ framed self ++ signature K.SignatureKind.model crc (numeral number) (framed self) }
-    {
-        let mut frame = self;
-        let octets = sign::<K>(crc, number, self.as_slice());
-        frame.push(&octets[0..K::width()]);
+        let signature = signing.sign::<K>(frame.as_slice());
+        frame.push(&signature[..K::width()]);
         frame
     }
 

@@ -8,22 +8,14 @@ pub fn first(octets: &[u8], count: usize) -> &[u8]
     ensures few { length result.now ≤ count }
     ensures whole { length octets.now ≤ count → result.now ≡ octets.now }
 {
-    if count < octets.len() {
-        &octets[0..count]
-    } else {
-        octets
-    }
+    octets.get(..count).unwrap_or(octets)
 }
 
 // The octet at a place, 0 past the end.
 pub fn octet_at(octets: &[u8], place: usize) -> u8
     ensures { result ≡ slice_index octets.now place }
 {
-    if place < octets.len() {
-        octets[place]
-    } else {
-        0
-    }
+    octets.get(place).copied().unwrap_or(0)
 }
 
 // Writes octets to the front of a buffer, as many as it has room for, and leaves the rest of it.
@@ -35,7 +27,7 @@ pub fn write_front(buffer: &mut [u8], octets: &[u8])
     buffer[0..front.len()].copy_from_slice(front);
 }
 
-// Adds octets after the first `size` octets of a room, as many as it has room for, and answers how many stand there
+// For the fixed memory of a frame: adds octets after the first `size` octets of a room, as many as it has room for, and answers how many stand there
 // then.
 pub fn append_at(room: &mut [u8], size: usize, more: &[u8]) -> usize
     ensures octets { take result room.new ≡ take (length room.old) (take size room.old ++ more.now) }

@@ -17,13 +17,6 @@ s4 = ruled 4 0xF4ACFB13
 abbrev pub c3 : Model
 c3 = record { width = 3; step = λ r o. bit_xor (r % 2 ^ 16 * 256 + r / 2 ^ 16 % 256) o }
 
--- A step of the bit rule by an entry of a table: the register without its highest octet, one octet up, xored with
--- what that highest octet and the octet fed make of the register 0. `low` is how many bits stand below the
--- highest octet.
-abbrev pub tabled : ℕ → ℕ → ℕ → ℕ → ℕ
-tabled low p r o =
-    bit_xor (bit_and r (2 ^ low - 1) * 256 % 2 ^ 32) (feed_bits (low + 7) p 0 8 (bit_xor (bit_and (r / 2 ^ low) 255) o))
-
 -- a step of the bench kind by masks and shifts
 abbrev pub rotated : ℕ → ℕ → ℕ
 rotated r o = bit_xor (bit_xor (bit_and r 65535 * 256 % 2 ^ 32) (bit_and (r / 65536) 255)) o

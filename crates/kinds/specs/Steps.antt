@@ -1,6 +1,6 @@
 -- The steps as the code computes them are those of the models.
-use Rattle.std.specs.Prelude.{◌≡◌, ℕ, ◌+◌, ◌-◌, ◌*◌, ◌/◌, ◌%◌, ◌^◌, ◌<◌, ◌≤◌, length, bit_and, bit_xor, refl}
-use Rattle.std.proofs.Common.{sym, ap, ap₂, ◌∙◌, mod-lt, mod-eq_of_lt, zero-add, lt_of_lt_of_le, arith, pow_pos, pow_mono, shl_lt}
+use Rattle.std.specs.Prelude.{◌≡◌, ℕ, ◌*◌, ◌/◌, ◌%◌, ◌^◌, ◌<◌, length, bit_and, bit_xor, refl}
+use Rattle.std.proofs.Common.{sym, ap, ap₂, ◌∙◌, zero-add, arith}
 use Rattle.std.specs.Int.Bits.{xor_assoc, xor_shifted}
 use Rattle.std.proofs.lemmas.Nat.{xor_lt, and_mask}
 use Rattle.std.specs.List.{range_with_len}
@@ -9,18 +9,7 @@ use Rattle.signature.specs.Rule.{feed_bits}
 use Rattle.signature.specs.Table.{computed}
 use Rattle.signature.proofs.ByTable.{by_table}
 use Rattle.signature.proofs.Table.{computed_is, entries}
-use Rattle.kinds.specs.Kinds.{c3, rotated, tabled}
-
--- by an entry of a table, at any register of at most four octets
-pub tabled_is : (k p r o : ℕ) → k ≤ 24 → tabled k p r o ≡ feed_bits (k + 7) p r 8 o
-tabled_is k p r o h =
-    let small : r % 2 ^ k * 256 < 2 ^ (k + 8) = shl_lt k 8 (mod-lt r (pow_pos k)) in
-    let room : k + 8 ≤ 32 = omega arith in
-    let inside : r % 2 ^ k * 256 < 2 ^ 32 = lt_of_lt_of_le small (pow_mono room) in
-    let low : bit_and r (2 ^ k - 1) * 256 % 2 ^ 32 ≡ r % 2 ^ k * 256 =
-    ap (λ (x : ℕ). x * 256 % 2 ^ 32) (and_mask r k) ∙ mod-eq_of_lt inside in
-    ap₂ (λ (x y : ℕ). bit_xor x (feed_bits (k + 7) p 0 8 (bit_xor y o))) low (and_mask (r / 2 ^ k) 8)
-    ∙ sym (by_table (k + 7) p k 7 r o (omega arith))
+use Rattle.kinds.specs.Kinds.{c3, rotated}
 
 -- with the polynomial 1 an octet makes itself of the register 0
 ones : (i : ℕ) → i < 256 → i ≡ feed_bits 23 1 0 8 i

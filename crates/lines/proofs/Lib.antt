@@ -1,4 +1,2 @@
 -- Lemmas of this crate.
-pub mod Figures
-pub mod Pieces
 pub mod Lengths

@@ -2,6 +2,7 @@
 ghost use Rattle.std.specs.Prelude.{◌≡◌, Some};
 ghost use Rattle.lines.specs.Advices.{advice_on, advice_text, head_advice, words_of};
 
+use book::LARGEST;
 use refusal::{Reason, Refusal};
 use std::fmt;
 
@@ -24,12 +25,12 @@ impl Advice {
     fn head(octets: &[u8]) -> Advice
         ensures { result ≡ head_advice octets.now }
     {
-        if octets.len() > 65_535 {
+        if octets.len() > LARGEST {
             return Advice::TooLarge;
         }
         match octets.first() {
             None => Advice::NoOctets,
-            Some(&first) if first >= 32 && first <= 126 => Advice::LooksLikeText,
+            Some(b' '..=b'~') => Advice::LooksLikeText,
             Some(&first) => Advice::OtherVersion(first),
         }
     }
@@ -38,13 +39,11 @@ impl Advice {
     pub fn on(octets: &[u8], ending: Option<Refusal>) -> Option<Advice>
         ensures { result ≡ advice_on octets.now ending }
     {
-        match ending {
-            None => None,
-            Some(refusal) => Some(match refusal.reason {
-                Reason::BookHead => Advice::head(octets),
-                _ => Advice::BreaksOff(refusal),
-            }),
-        }
+        let refusal = ending?;
+        Some(match refusal.reason {
+            Reason::BookHead => Advice::head(octets),
+            _ => Advice::BreaksOff(refusal),
+        })
     }
 
     // What is said, up to what was found.
@@ -69,7 +68,7 @@ impl fmt::Display for Advice {
         match self {
             Advice::OtherVersion(first) => write!(f, "{words}{first}"),
             Advice::BreaksOff(refusal) => write!(f, "{words}{refusal}"),
-            _ => write!(f, "{words}"),
+            _ => f.write_str(words),
         }
     }
 }

@@ -2,12 +2,7 @@
 #![tactic(auto)]
 
 mod advice;
-mod digits;
-mod letters;
 mod line;
-mod row;
-mod text;
 
 pub use advice::Advice;
-pub use line::Line;
-pub use text::Text;
+pub use line::{Line, lines_are_short};

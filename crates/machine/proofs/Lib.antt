@@ -11,4 +11,3 @@ pub mod Each
 pub mod Takes
 pub mod Kept
 pub mod Stands
-pub mod Unchanged

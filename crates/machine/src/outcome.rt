@@ -1,6 +1,8 @@
 // What a call that is not refused comes to.
-ghost use Rattle.std.specs.Prelude.{◌≡◌};
+ghost use Rattle.std.specs.Prelude.{◌≡◌, Some};
 ghost use Rattle.machine.specs.Words.{outcome_name};
+
+use std::fmt;
 
 #[derive(Clone, Copy, Debug, PartialEq)]
 pub enum Outcome {
@@ -33,5 +35,13 @@ impl Outcome {
             Outcome::Process => "process",
             Outcome::FailSafe => "fail-safe",
         }
+    }
+}
+
+impl fmt::Display for Outcome {
+    ghost output = { λ o. Some (outcome_name o) };
+
+    fn fmt<W: fmt::Write>(&self, f: &mut fmt::Formatter<W>) -> fmt::Result {
+        f.write_str(self.name())
     }
 }

@@ -2,6 +2,7 @@
 ghost use Rattle.std.specs.Prelude.{◌≡◌};
 ghost use Rattle.machine.specs.Words.{cause_number};
 
+// A type for each end, since what the host does in restart is not what the device does while it waits.
 #[derive(Clone, Copy, Debug, PartialEq)]
 pub enum HostPhase {
     Restart,

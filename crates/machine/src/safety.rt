@@ -1,17 +1,13 @@
-// The laws of the machine. Each function carries one, for others to cite; what it returns says nothing.
+// The laws of the machine. Each function carries one, for others to cite, and does nothing.
 ghost use Rattle.machine.specs.Refused.{RefusedChangesNothing};
 ghost use Rattle.machine.specs.Statement.{Statement};
 
 // The safety statement, whole: values, fail-safe until a press, frames.
-pub fn statement_holds() -> u8
+pub fn statement_holds()
     ensures { Statement }
-{
-    0
-}
+{}
 
 // A refused call leaves both ends, the button, the lines and the caller's buffer alone.
-pub fn refused_changes_nothing() -> u8
+pub fn refused_changes_nothing()
     ensures { RefusedChangesNothing }
-{
-    0
-}
+{}

@@ -6,13 +6,39 @@ ghost use Rattle.mizkaule.specs.Kinds.{fitted_by, judged_by, signs_by, signs_oct
 
 use crate::answer::{Answer, Verdict};
 use crate::by_kind::{fit, judge, put};
-use kinds::{C3, S3, S4};
+use block::Own;
+use kinds::{C3, KindName, S3, S4};
 
-const KIND_S3: u8 = 3;
+// Calls a function under the kind of a name. A closure can't be generic over a type, so that this
+// is a macro.
+macro_rules! under {
+    ($kind:expr, $call:ident($($argument:expr),*)) => {
+        match $kind {
+            KindName::S3 => $call::<S3>($($argument),*),
+            KindName::S4 => $call::<S4>($($argument),*),
+            KindName::C3 => $call::<C3>($($argument),*),
+        }
+    };
+}
 
-const KIND_S4: u8 = 4;
+fn judge_by(kind: u8, octets: &[u8], own: Own) -> Verdict
+    ensures { result ≡ judged_by kind octets.now own }
+{
+    under!(KindName::try_from(kind)?, judge(octets, own))
+}
 
-const KIND_C3: u8 = 0xc3;
+fn put_by(kind: u8, crc: u16, number: u32, octets: &[u8], out: &mut [u8]) -> Verdict
+    ensures told { result ≡ signs_by kind number (length out.old) }
+    ensures buffer { out.new ≡ written (signs_octets_by kind crc number octets.now (length out.old)) out.old }
+{
+    under!(KindName::try_from(kind)?, put(crc, number, octets, out))
+}
+
+fn fit_by(kind: u8, crc: u16, number: u32, frame: &[u8]) -> Verdict
+    ensures { result ≡ fitted_by kind crc number frame.now }
+{
+    under!(KindName::try_from(kind)?, fit(crc, number, frame))
+}
 
 #[unsafe(no_mangle)]
 pub extern "C" fn mizkaule_raw_judge_block(
@@ -23,17 +49,15 @@ pub extern "C" fn mizkaule_raw_judge_block(
     in_len: usize,
     kind: u8,
 ) -> Answer
-    ensures { result ≡ answer_of (judged_by kind block.now (address, rank) (out_len, in_len)) }
+    ensures { result ≡ answer_of (judged_by kind block.now (record { address = address; rank = rank; out_len = out_len; in_len = in_len })) }
 {
-    let own = (address, rank);
-    let lengths = (out_len, in_len);
-    let verdict = match kind {
-        KIND_S3 => judge::<S3>(block, own, lengths),
-        KIND_S4 => judge::<S4>(block, own, lengths),
-        KIND_C3 => judge::<C3>(block, own, lengths),
-        _ => Verdict::NoSuch,
+    let own = Own {
+        address,
+        rank,
+        out_len,
+        in_len,
     };
-    verdict.answer()
+    Answer::from(judge_by(kind, block, own))
 }
 
 #[unsafe(no_mangle)]
@@ -47,24 +71,12 @@ pub extern "C" fn mizkaule_raw_sign(
     ensures told { result ≡ answer_of (signs_by kind number (length out.old)) }
     ensures buffer { out.new ≡ written (signs_octets_by kind crc number octets.now (length out.old)) out.old }
 {
-    let verdict = match kind {
-        KIND_S3 => put::<S3>(crc, number, octets, out),
-        KIND_S4 => put::<S4>(crc, number, octets, out),
-        KIND_C3 => put::<C3>(crc, number, octets, out),
-        _ => Verdict::NoSuch,
-    };
-    verdict.answer()
+    Answer::from(put_by(kind, crc, number, octets, out))
 }
 
 #[unsafe(no_mangle)]
 pub extern "C" fn mizkaule_raw_fits(kind: u8, crc: u16, number: u32, frame: &[u8]) -> Answer
     ensures { result ≡ answer_of (fitted_by kind crc number frame.now) }
 {
-    let verdict = match kind {
-        KIND_S3 => fit::<S3>(crc, number, frame),
-        KIND_S4 => fit::<S4>(crc, number, frame),
-        KIND_C3 => fit::<C3>(crc, number, frame),
-        _ => Verdict::NoSuch,
-    };
-    verdict.answer()
+    Answer::from(fit_by(kind, crc, number, frame))
 }

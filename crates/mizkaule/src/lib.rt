@@ -6,4 +6,4 @@ mod by_kind;
 mod calls;
 mod replays;
 
-pub use answer::{Answer, Verdict};
+pub use answer::{Answer, Failure, Verdict};

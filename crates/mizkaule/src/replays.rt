@@ -1,7 +1,7 @@
 // The replay of a book into the caller's buffer.
 ghost use Rattle.mizkaule.specs.Replays.{Answered, Replayed};
 
-use crate::answer::{Answer, Verdict};
+use crate::answer::{Answer, Failure, Verdict};
 use frame::write_front;
 use refusal::{Reason, Refusal};
 use std::alloc::Global;
@@ -10,21 +10,20 @@ use transcript::transcript;
 fn replay(heap: Global, book: &[u8], text: &mut [u8]) -> Verdict
     ensures { Replayed book.now text.old text.new result }
 {
-    let Ok(printed) = transcript(heap, book) else {
-        return Verdict::NoMemory;
-    };
+    let printed = transcript(heap, book)?;
     let said = printed.as_bytes();
     let size = said.len();
     if text.len() < size {
-        return Verdict::TurnedDown(Refusal::at(Reason::BufferLength, 0), size);
+        let refusal = Refusal::at(Reason::BufferLength, 0);
+        return Err(Failure::TurnedDown(refusal, size));
     }
     write_front(text, said);
-    Verdict::Done(size)
+    Ok(size)
 }
 
 #[unsafe(no_mangle)]
 pub extern "C" fn mizkaule_raw_replay(heap: Global, book: &[u8], text: &mut [u8]) -> Answer
     ensures { Answered book.now text.old text.new result }
 {
-    replay(heap, book, text).answer()
+    Answer::from(replay(heap, book, text))
 }

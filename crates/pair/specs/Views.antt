@@ -6,8 +6,6 @@ use Rattle.machine.specs.declared.phase.Cause.TheVariants.{Start}
 use Rattle.machine.specs.Button.{button_started}
 use Rattle.machine.specs.Lines.{Entry}
 use Rattle.machine.specs.Calls as machine
-use Rattle.host.specs.View.{host_view}
-use Rattle.device.specs.View.{device_view}
 use Rattle.pair.specs.declared.pair.Pair.{Pair}
 
 -- both ends, whether the button is held, and whether a press of it waits to be handed over
@@ -18,7 +16,7 @@ pub record Ends : Type 0 where
   pub hand : Bool
 
 abbrev pub ends : {H D : Type 0} → Pair H D → Ends
-ends p = record { host = host_view p.host; device = device_view p.device; held = p.button.held; hand = is_some p.press }
+ends p = record { host = p.host.state; device = p.device.state; held = p.button; hand = is_some p.press }
 
 -- both ends just started, and a new button
 abbrev pub blank_ends : Ends

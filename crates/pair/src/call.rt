@@ -2,6 +2,7 @@
 
 // Offers and readings write into a buffer that is lent with the call. `Press` hands the host what the button yielded
 // since the last one, or tells it that there is none.
+// Data and no closures, since lists of them are what the safety statement speaks of.
 #[derive(Clone, Copy)]
 pub enum Call<'a> {
     HostOffer { values: &'a [u8], wish: u8 },

@@ -4,7 +4,6 @@ ghost use Rattle.machine.specs.Answers.{unless};
 ghost use Rattle.machine.specs.Button.{button_answer, button_next, button_refused, yields_press};
 ghost use Rattle.machine.specs.HostEnd.{host_press_answer, host_press_next};
 ghost use Rattle.machine.specs.Lines.{Entry};
-ghost use Rattle.host.specs.View.{host_view};
 ghost use Rattle.pair.specs.Callings.{at_end, call_of, hand_after};
 ghost use Rattle.pair.specs.Made.{Made};
 ghost use Rattle.pair.specs.Views.{blank_ends, ends};
@@ -48,26 +47,21 @@ impl<H: SignatureKind, D: SignatureKind> Pair<H, D> {
     // Reads the button; a press that it yields waits to be handed over.
     fn read_button(&mut self, reading: u8) -> Result<Outcome, Refusal>
         ensures answer { result ≡ button_answer reading }
-        ensures held { self.new.button.held ≡ button_next self.old.button.held reading }
-        ensures hand { is_some self.new.press ≡ unless (button_refused reading) (is_some self.old.press) (if yields_press self.old.button.held reading then true else is_some self.old.press) }
+        ensures held { self.new.button ≡ button_next self.old.button reading }
+        ensures hand { is_some self.new.press ≡ unless (button_refused reading) (is_some self.old.press) (if yields_press self.old.button reading then true else is_some self.old.press) }
         ensures host { self.new.host ≡ self.old.host }
         ensures device { self.new.device ≡ self.old.device }
     {
-        match self.button.read(reading) {
-            Ok(Some(press)) => {
-                self.press = Some(press);
-                Ok(Outcome::Quiet)
-            }
-            Ok(None) => Ok(Outcome::Quiet),
-            Err(refusal) => Err(refusal),
+        if let Some(press) = self.button.read(reading)? {
+            self.press = Some(press);
         }
+        Ok(Outcome::Quiet)
     }
 
     // Hands the host the press that waits, or tells it that there is none.
     fn hand_press(&mut self) -> Result<Outcome, Refusal>
-        ensures answer { result ≡ host_press_answer (host_view self.old.host) (is_some self.old.press) }
-        ensures next { host_view self.new.host ≡ host_press_next (host_view self.old.host) (is_some self.old.press) }
-        ensures setup { self.new.host.setup ≡ self.old.host.setup }
+        ensures answer { result ≡ host_press_answer self.old.host.state (is_some self.old.press) }
+        ensures next { self.new.host ≡ record self.old.host { state = host_press_next self.old.host.state (is_some self.old.press) } }
         ensures hand { is_some self.new.press ≡ false }
         ensures button { self.new.button ≡ self.old.button }
         ensures device { self.new.device ≡ self.old.device }

@@ -58,7 +58,8 @@ impl fmt::Display for Layer {
     }
 }
 
-// Written out, so that its promise is read here: reasons are equal if their numbers are.
+// Written out, so that its promise is read here: reasons are equal if their numbers are. A derive
+// would promise it of the cases, and no line would say it of the numbers that books and C show.
 impl PartialEq for Reason {
     ghost eq = { λ a b. (number_of a == number_of b) };
 
@@ -76,6 +77,7 @@ impl Reason {
         self as u8
     }
 
+    // By number, as the pages give the layers; eighteen cases in its place would be no plainer.
     pub fn layer(self) -> Layer
         ensures { result ≡ layer_of self }
     {

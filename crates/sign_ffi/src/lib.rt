@@ -3,19 +3,10 @@
 
 ghost use Rattle.std.specs.Prelude.{cond, ◌≡◌, ◌%◌, ◌^◌, eqb, length};
 ghost use Rattle.signature.specs.Kind.{signature};
-ghost use Rattle.signature.specs.Numbers.{numeral};
 ghost use Rattle.kinds.specs.Kinds.{s3, s4};
 
 use kinds::{S3, S4};
-use signature::{Number, SignatureKind, sign};
-
-// The 24 lowest bits.
-fn lowest(value: u32) -> Number
-    ensures { numeral result ≡ value % 2 ^ 24 }
-{
-    let [_, high, middle, low] = value.to_be_bytes();
-    Number { high, middle, low }
-}
+use signature::{Number, SignatureKind, Signing};
 
 // Writes the signature of a frame's octets under the 24 lowest bits of a number, if `out` has just
 // its length; else `out` stays as it is.
@@ -27,11 +18,13 @@ fn put<K: SignatureKind>(crc: u16, number: u32, body: &[u8], out: &mut [u8]) -> 
     if out.len() != width {
         return false;
     }
-    let padded = sign::<K>(crc, lowest(number), body);
+    let number = Number::lowest(number);
+    let padded = Signing { crc, number }.sign::<K>(body);
     out.copy_from_slice(&padded[0..width]);
     true
 }
 
+// One name for each kind: C has no generic functions.
 #[unsafe(no_mangle)]
 pub extern "C" fn sign_s3(crc: u16, number: u32, body: &[u8], out: &mut [u8]) -> bool
     ensures told { result ≡ eqb (length out.old) 3 }

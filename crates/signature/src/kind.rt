@@ -32,7 +32,8 @@ pub trait SignatureKind {
         u32::from(crc)
     }
 
-    // A register's octets, the highest first, and zeros after them.
+    // A register's octets, the highest first, and zeros after them: an end keeps no heap memory, and
+    // no array's length is computed from the width.
     fn signature(register: u32) -> [u8; 4]
         ensures signature { take model.width result ≡ octets model.width register }
         ensures rest { drop model.width result ≡ replicate (4 - model.width) 0 }

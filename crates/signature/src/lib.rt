@@ -1,10 +1,12 @@
 // Signature kinds: the trait with its laws, and what a frame's signature is.
 #![tactic(auto)]
 
-mod frame;
 mod kind;
 mod number;
+mod ruled_table;
+mod signing;
 
-pub use frame::{fits, frames_tell, sign};
 pub use kind::SignatureKind;
-pub use number::Number;
+pub use number::{Number, TooLarge};
+pub use ruled_table::RuledTable;
+pub use signing::{Signing, frames_tell, register_after};

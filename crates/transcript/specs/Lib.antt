@@ -1,5 +1,4 @@
 -- The definitions that the contracts of this crate cite.
-pub mod Lines
 pub mod Benches
 pub mod Replays
 pub mod Standing

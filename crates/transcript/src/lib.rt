@@ -3,13 +3,11 @@
 
 mod bench;
 mod calls;
-mod line;
-mod lines;
+mod heading;
 mod octets;
 mod opening;
 mod replay;
 mod text;
 
 pub use bench::Bench;
-pub use line::Line;
 pub use text::transcript;

@@ -2,6 +2,7 @@
 use Rattle.std.proofs.Common.{◌≡◌, ℕ, zero, suc, ◌/◌, ◌%◌, List, [], ◌∷◌, Some, None, Option, sym, refl, ap, ◌∙◌, subst, arith, Bor, MatchOption}
 use Rattle.std.specs.Str.Iter.{LacksByte}
 use Rattle.std.specs.Char.{digit_char}
+use Rattle.std.specs.Option.{option_zip}
 use Rattle.vectors.specs.Hex.{hex_text}
 use Rattle.vectors.specs.Lines.{spaced}
 
@@ -43,3 +44,17 @@ hex_lacks [] k h e = omega arith
 hex_lacks (o ∷ os) zero h e = digit_apart (o / 16 % 16) e
 hex_lacks (o ∷ os) (suc zero) h e = digit_apart (o % 16) e
 hex_lacks (o ∷ os) (suc (suc k)) h e = hex_lacks os k (omega arith) e
+
+-- after a field of octets and a space, the rest is the same
+pub past_field : (os ps x y : List ℕ) → spaced (hex_text os) x ≡ spaced (hex_text ps) y → x ≡ y
+past_field os ps x y e = (same_cut (spaced (hex_text os) x) (hex_text os) x refl (hex_lacks os) (hex_text ps) y e (hex_lacks ps)).1
+
+-- two fields of octets, if both are
+pub both_fields : {A : Type 0} (items : A → List ℕ) (text field rest : List ℕ) (a b : Option A) → text ≡ spaced field rest → LacksByte 32 field
+    → MatchOption a ((os : List ℕ) → field ≡ hex_text os → ⊥) (λ v. field ≡ hex_text (items v))
+    → MatchOption b ((os : List ℕ) → rest ≡ hex_text os → ⊥) (λ v. rest ≡ hex_text (items v))
+    → MatchOption (option_zip a b) ((os answer : List ℕ) → text ≡ spaced (hex_text os) (hex_text answer) → ⊥)
+    (λ p. text ≡ spaced (hex_text (items p.0)) (hex_text (items p.1)))
+both_fields items text field rest None b e l h k = λ os answer f. h os (same_cut text field rest e l (hex_text os) (hex_text answer) f (hex_lacks os)).0
+both_fields items text field rest (Some v) None e l h k = λ os answer f. k answer (same_cut text field rest e l (hex_text os) (hex_text answer) f (hex_lacks os)).1
+both_fields items text field rest (Some v) (Some w) e l h k = cc

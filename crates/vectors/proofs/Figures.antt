@@ -1,24 +1,38 @@
--- A number that grows by one octet at a time.
-use Rattle.std.proofs.Common.{◌≡◌, ℕ, ◌+◌, ◌*◌, ◌/◌, ◌%◌, ◌^◌, ◌<◌, ◌≤◌, [], ◌∷◌, ◌++◌, refl, ap, ◌∙◌, pow-suc, add-one, arith}
-use native.Mathlib.Nat.{pow-le-pow_right}
+-- A figure is spelt by its octets.
+use Rattle.std.proofs.Common.{◌≡◌, ℕ, ◌+◌, ◌*◌, ◌/◌, ◌%◌, List, [], ◌∷◌, get_or, ◌∙◌, arith}
 use Rattle.signature.specs.Kind.{octets}
+use Rattle.signature.specs.Numbers.{numeral}
+use Rattle.signature.proofs.Octets.{octets_numeral, octets_four}
+use Rattle.vectors.specs.Hex.{AreOctets}
 
-pub octets_none : (x : ℕ) → octets 0 x ≡ []
+pub two : (os : List ℕ) → AreOctets 2 os → octets 2 (get_or os 0 0 * 256 + get_or os 1 0) ≡ os
 unfolding octets
-octets_none x = refl
+two [] a = absurd (omega arith)
+two (h ∷ []) a = absurd (omega arith)
+two (h ∷ l ∷ []) a =
+    let high : (h * 256 + l) / 256 % 256 ≡ h = omega arith in
+    let low : (h * 256 + l) % 256 ≡ l = omega arith in
+    cc
+two (h ∷ l ∷ x ∷ os) a = absurd (omega arith)
 
-pub octets_more : (i x o : ℕ) → o < 256 → octets (i + 1) (x * 256 + o) ≡ octets i x ++ (o ∷ [])
-unfolding octets
-octets_more i x o h =
-    let front : (x * 256 + o) / 256 ≡ x = omega arith in
-    let last : (x * 256 + o) % 256 ≡ o = omega arith in
-    ap (λ (n : ℕ). octets n (x * 256 + o)) (add-one i)
-    ∙ ap (λ (y : ℕ). octets i y ++ (((x * 256 + o) % 256) ∷ [])) front
-    ∙ ap (λ (y : ℕ). octets i x ++ (y ∷ [])) last
+pub three : (os : List ℕ) → AreOctets 3 os → octets 3 (numeral (record { high = get_or os 0 0; middle = get_or os 1 0; low = get_or os 2 0 })) ≡ os
+three [] a = absurd (omega arith)
+three (h ∷ []) a = absurd (omega arith)
+three (h ∷ m ∷ []) a = absurd (omega arith)
+three (h ∷ m ∷ l ∷ []) a = octets_numeral (record { high = h; middle = m; low = l }) a.1.0 a.1.1.0 a.1.1.1.0
+three (h ∷ m ∷ l ∷ x ∷ os) a = absurd (omega arith)
 
-pub below_more : (i x o : ℕ) → x < 256 ^ i → o < 256 → x * 256 + o < 256 ^ (i + 1)
-below_more i x o h k = omega (arith, ap (λ (n : ℕ). 256 ^ n) (add-one i), pow-suc 256 i)
-
--- with at most three octets there is room for one more
-pub room : (i x : ℕ) → i < 4 → x < 256 ^ i → x < 16777216
-room i x h k = let p : i ≤ 3 = omega arith in omega (arith, pow-le-pow_right {n = 256} (omega arith) p)
+pub four : (os : List ℕ) → AreOctets 4 os
+    → octets 4 (get_or os 0 0 * 16777216 + get_or os 1 0 * 65536 + get_or os 2 0 * 256 + get_or os 3 0) ≡ os
+four [] a = absurd (omega arith)
+four (h ∷ []) a = absurd (omega arith)
+four (h ∷ i ∷ []) a = absurd (omega arith)
+four (h ∷ i ∷ j ∷ []) a = absurd (omega arith)
+four (h ∷ i ∷ j ∷ k ∷ []) a =
+    let x : ℕ = h * 16777216 + i * 65536 + j * 256 + k in
+    let one : x / 16777216 % 256 ≡ h = omega arith in
+    let two : x / 65536 % 256 ≡ i = omega arith in
+    let three : x / 256 % 256 ≡ j = omega arith in
+    let four : x % 256 ≡ k = omega arith in
+    octets_four x ∙ cc
+four (h ∷ i ∷ j ∷ k ∷ x ∷ os) a = absurd (omega arith)

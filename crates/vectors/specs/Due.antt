@@ -2,17 +2,10 @@
 use Rattle.std.specs.Prelude.{ℕ, cond, List, [], ◌∷◌, vec_items}
 use Rattle.signature.specs.Kind.{Model, feed, fits_number, octets, signature}
 use Rattle.signature.specs.Numbers.{numeral}
-use Rattle.kinds.specs.Kinds.{c3, s3, s4}
+use Rattle.kinds.specs.Names.{model_of}
 use Rattle.vectors.specs.declared.table.Asked.{Asked}
 use Rattle.vectors.specs.declared.table.Asked.TheVariants.{Sign, Fits, Run}
-use Rattle.vectors.specs.declared.table.KindName.{KindName}
-use Rattle.vectors.specs.declared.table.KindName.TheVariants.{S3, S4, C3}
 use Rattle.vectors.specs.declared.table.Vector.{Vector}
-
-abbrev pub model_of : KindName → Model
-model_of S3 = s3
-model_of S4 = s4
-model_of C3 = c3
 
 -- the signature of the octets; 1 if they are a frame that fits, else 0; the register after them
 abbrev pub answered : Model → Asked → List ℕ → List ℕ

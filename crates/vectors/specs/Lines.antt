@@ -2,22 +2,17 @@
 use Rattle.std.specs.Prelude.{ℕ, List, ◌∷◌, ◌++◌, vec_items, codes}
 use Rattle.signature.specs.Kind.{octets}
 use Rattle.signature.specs.Numbers.{numeral}
+use Rattle.signature.specs.declared.signing.Signing.{Signing}
+use Rattle.kinds.specs.Names.{kind_word}
+use Rattle.kinds.specs.declared.name.KindName.{KindName}
 use Rattle.vectors.specs.Hex.{hex_text}
 use Rattle.vectors.specs.declared.table.Asked.{Asked}
 use Rattle.vectors.specs.declared.table.Asked.TheVariants.{Sign, Fits, Run}
-use Rattle.vectors.specs.declared.table.KindName.{KindName}
-use Rattle.vectors.specs.declared.table.KindName.TheVariants.{S3, S4, C3}
-use Rattle.vectors.specs.declared.table.Signing.{Signing}
 use Rattle.vectors.specs.declared.table.Vector.{Vector}
 
 -- a field, a space, and what follows
 abbrev pub spaced : List ℕ → List ℕ → List ℕ
 spaced field rest = field ++ (32 ∷ rest)
-
-abbrev pub kind_word : KindName → List ℕ
-kind_word S3 = codes "S3"
-kind_word S4 = codes "S4"
-kind_word C3 = codes "C3"
 
 abbrev pub form_word : Asked → List ℕ
 form_word (Sign s) = codes "sign"
@@ -34,9 +29,13 @@ headed (Sign s) rest = signed_under s rest
 headed (Fits s) rest = signed_under s rest
 headed (Run start) rest = spaced (hex_text (octets 4 start)) rest
 
--- the line of a vector: form, kind, the fields above, octets, and the answer that it states
+-- how a line opens: form, kind, and the fields above
+abbrev pub opened : KindName → Asked → List ℕ → List ℕ
+opened k a rest = spaced (form_word a) (spaced (kind_word k) (headed a rest))
+
+-- the line of a vector: the opening, octets, and the answer that it states
 abbrev pub written : KindName → Asked → List ℕ → List ℕ → List ℕ
-written k a os answer = spaced (form_word a) (spaced (kind_word k) (headed a (spaced (hex_text os) (hex_text answer))))
+written k a os answer = opened k a (spaced (hex_text os) (hex_text answer))
 
 abbrev pub line_of : Vector → List ℕ
 line_of v = written v.kind v.asked (vec_items v.octets) (vec_items v.answer)

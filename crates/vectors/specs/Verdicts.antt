@@ -3,7 +3,7 @@ use Rattle.std.specs.Prelude.{◌≡◌, ℕ, List, vec_items, ◌≢◌}
 use Rattle.vectors.specs.Due.{due}
 use Rattle.vectors.specs.Lines.{line_of, written}
 use Rattle.vectors.specs.declared.table.Asked.{Asked}
-use Rattle.vectors.specs.declared.table.KindName.{KindName}
+use Rattle.kinds.specs.declared.name.KindName.{KindName}
 use Rattle.vectors.specs.declared.verdict.Verdict.{Verdict}
 use Rattle.vectors.specs.declared.verdict.Verdict.TheVariants.{Agrees, Differs, Malformed}
 

@@ -20,13 +20,13 @@ pub struct CheckValue {
 pub fn check_value(heap: Global, fields: &str) -> Result<Option<CheckValue>, AllocError>
     ensures { IfOk result (λ o. MatchOption o ((os answer : List ℕ) → fields.now ≢ spaced (hex_text os) (hex_text answer)) (λ v. (fields.now ≡ spaced (hex_text v.octets.items) (hex_text v.answer.items)) × (v.given ≡ par_crc v.octets.items))) }
 {
-    let Some((octets, answer)) = read_octets(heap, fields)? else {
-        return Ok(None);
-    };
-    let given = par_crc(&octets);
-    Ok(Some(CheckValue {
-        octets,
-        answer,
-        given,
+    let read = read_octets(heap, fields)?;
+    Ok(read.map(|(octets, answer)| {
+        let given = par_crc(&octets);
+        CheckValue {
+            octets,
+            answer,
+            given,
+        }
     }))
 }

@@ -1,34 +1,46 @@
 // Reads the table of vectors from standard input, and prints each line that does not agree with the code.
 #![tactic(auto)]
 
+ghost use Rattle.std.specs.Prelude.{Some};
+ghost use Rattle.vectors.specs.Hex.{hex_text};
+
 mod checks;
 mod table;
 mod verdict;
 
 use checks::check_value;
 use std::alloc::Global;
-use std::fmt::Write;
+use std::fmt;
 use std::io::{BufRead, BufReader};
 use verdict::{Verdict, judge};
 
 // Octets as the table writes them.
-fn hex(heap: Global, octets: &[u8]) -> anyhow::Result<String> {
-    let mut text = String::new(heap);
-    for o in octets {
-        write!(text, "{o:02x}")?;
+#[derive(Clone, Copy)]
+struct Hex<'a>(&'a [u8]);
+
+impl fmt::Display for Hex<'_> {
+    ghost output = { λ x. Some (hex_text x.0.now) };
+
+    fn fmt<W: fmt::Write>(&self, f: &mut fmt::Formatter<W>) -> fmt::Result {
+        for &o in self.0 {
+            write!(f, "{o:02x}")?;
+        }
+        Ok(())
     }
-    Ok(text)
+}
+
+fn tell_differing(rt: &HostRuntime, count: u64, answer: &[u8], given: &[u8]) -> anyhow::Result<()> {
+    let expected = Hex(answer);
+    let got = Hex(given);
+    println!(rt; "line {count}: expected {expected}, got {got}")?;
+    Ok(())
 }
 
 // Whether a line agrees with the code; one that does not is printed, and so is a malformed one.
 fn agrees(rt: &HostRuntime, line: &str, count: u64) -> anyhow::Result<bool> {
     match &judge(rt.alloc(), line)? {
         Verdict::Agrees(_) => return Ok(true),
-        Verdict::Differs { vector, given } => {
-            let expected = hex(rt.alloc(), &vector.answer)?;
-            let got = hex(rt.alloc(), given)?;
-            println!(rt; "line {count}: expected {expected}, got {got}")?;
-        }
+        Verdict::Differs { vector, given } => tell_differing(rt, count, &vector.answer, given)?,
         Verdict::Malformed => println!(rt; "line {count}: malformed")?,
     }
     Ok(false)
@@ -43,14 +55,13 @@ fn agrees_on_block(rt: &HostRuntime, fields: &str, count: u64) -> anyhow::Result
     let given = found.given.to_be_bytes();
     let same = found.answer.as_slice() == given.as_slice();
     if !same {
-        let expected = hex(rt.alloc(), &found.answer)?;
-        let got = hex(rt.alloc(), &given)?;
-        println!(rt; "line {count}: expected {expected}, got {got}")?;
+        tell_differing(rt, count, &found.answer, &given)?;
     }
     Ok(same)
 }
 
-// A malformed line counts as one that differs.
+// A malformed line counts as one that differs. Lines are counted by hand: `enumerate` would not
+// save the count, which the last line prints.
 fn examine(rt: &HostRuntime) -> anyhow::Result<()> {
     let mut count = 0u64;
     let mut differ = 0u64;

@@ -1,27 +1,13 @@
 // The lines of the table of vectors, and how a vector is read from its line.
-ghost use Rattle.std.specs.Prelude.{◌≡◌, ℕ, ◌^◌, ◌<◌, ◌≤◌, List, ◌++◌, length, IfOk, MatchOption, ◌≢◌};
+ghost use Rattle.std.specs.Prelude.{◌≡◌, ℕ, ◌<◌, List, ◌++◌, length, IfOk, MatchOption, ◌≢◌};
 ghost use Rattle.std.specs.Str.Iter.{LacksByte};
 ghost use Rattle.std.specs.Char.{digit_char};
-ghost use Rattle.signature.specs.Kind.{octets};
-ghost use Rattle.vectors.specs.Hex.{hex_text, pair};
-ghost use Rattle.vectors.specs.Lines.{form_word, headed, kind_word, line_of, signed_under, spaced, written};
+ghost use Rattle.vectors.specs.Hex.{AreOctets, hex_text, pair};
+ghost use Rattle.vectors.specs.Lines.{form_word, headed, line_of, opened, signed_under, spaced, written};
 
-use signature::Number;
+use kinds::KindName;
+use signature::{Number, Signing};
 use std::alloc::{AllocError, Global};
-
-#[derive(Clone, Copy)]
-pub enum KindName {
-    S3,
-    S4,
-    C3,
-}
-
-// What a frame is signed under.
-#[derive(Clone, Copy)]
-pub struct Signing {
-    pub crc: u16,
-    pub number: Number,
-}
 
 // What a line asks of the octets that it has.
 #[derive(Clone, Copy)]
@@ -44,19 +30,6 @@ pub struct Vector {
     pub answer: Vec<u8>,
 }
 
-impl KindName {
-    fn of(word: &str) -> Option<KindName>
-        ensures { MatchOption result ((k : KindName) → word.now ≢ kind_word k) (λ k. word.now ≡ kind_word k) }
-    {
-        match word {
-            "S3" => Some(KindName::S3),
-            "S4" => Some(KindName::S4),
-            "C3" => Some(KindName::C3),
-            _ => None,
-        }
-    }
-}
-
 // The value of a digit.
 fn digit(c: u8) -> Option<u8>
     ensures { MatchOption result ((d : ℕ) → d < 16 → c ≢ digit_char d) (λ d. (d < 16) × (c ≡ digit_char d)) }
@@ -70,7 +43,7 @@ fn digit(c: u8) -> Option<u8>
 
 // The octet that a text begins with, and what follows its two digits.
 fn first_octet(text: &[u8]) -> Option<(u8, &[u8])>
-    ensures { MatchOption result ((o : ℕ) (rest : List ℕ) → text.now ≢ pair o ++ rest) (λ p. text.now ≡ pair p.0 ++ p.1.now) }
+    ensures { MatchOption result ((o : ℕ) (rest : List ℕ) → text.now ≢ pair o ++ rest) (λ p. (text.now ≡ pair p.0 ++ p.1.now) × (p.0 < 256)) }
 {
     let (high, after) = text.split_first()?;
     let (low, rest) = after.split_first()?;
@@ -85,27 +58,25 @@ fn decode(heap: Global, text: &[u8]) -> Result<Option<Vec<u8>>, AllocError>
 {
     let mut octets = Vec::new(heap);
     let mut left = text;
-    while !left.is_empty() {
-        let Some((o, rest)) = first_octet(left) else {
-            return Ok(None);
-        };
+    while let Some((o, rest)) = first_octet(left) {
         octets.push(o)?;
         left = rest;
     }
-    Ok(Some(octets))
+    Ok(left.is_empty().then_some(octets))
 }
 
-// The number that octets spell, the highest first.
-fn value(spelt: &[u8]) -> u32
-    requires { length spelt.now ≤ 4 }
-    ensures spelt { octets (length spelt.now) result ≡ spelt.now }
-    ensures below { result < 256 ^ length spelt.now }
+// The N octets that a text writes; none if it writes no octets, or another count of them.
+fn figure<const N: usize>(text: &[u8]) -> Option<[u8; N]>
+    ensures { MatchOption result ((os : List ℕ) → length os ≡ N → text.now ≢ hex_text os) (λ a. (text.now ≡ hex_text a) × AreOctets N a) }
 {
-    let mut x = 0u32;
-    for o in spelt {
-        x = x * 256 + u32::from(*o);
+    let mut octets = [0; N];
+    let mut left = text;
+    for o in octets.iter_mut() {
+        let (octet, rest) = first_octet(left)?;
+        *o = octet;
+        left = rest;
     }
-    x
+    left.is_empty().then_some(octets)
 }
 
 // The first field of a text, and what follows its space.
@@ -115,39 +86,24 @@ fn cut(text: &str) -> Option<(&str, &str)>
     text.split_once(' ')
 }
 
-// The number in the first field of a text, which has so many octets, and the rest of the text.
-fn read_figure(heap: Global, text: &str, count: usize) -> Result<Option<(u32, &str)>, AllocError>
-    requires { count ≤ 4 }
-    ensures { IfOk result (λ o. MatchOption o ((x : ℕ) (rest : List ℕ) → text.now ≢ spaced (hex_text (octets count x)) rest) (λ p. (text.now ≡ spaced (hex_text (octets count p.0)) p.1.now) × (p.0 < 256 ^ count))) }
+// The N octets in the first field of a text, and the rest of the text.
+fn read_figure<const N: usize>(text: &str) -> Option<([u8; N], &str)>
+    ensures { MatchOption result ((os rest : List ℕ) → length os ≡ N → text.now ≢ spaced (hex_text os) rest) (λ p. (text.now ≡ spaced (hex_text p.0) p.1.now) × AreOctets N p.0) }
 {
-    let Some((field, rest)) = cut(text) else {
-        return Ok(None);
-    };
-    let Some(spelt) = decode(heap, field.as_bytes())? else {
-        return Ok(None);
-    };
-    if spelt.len() == count {
-        Ok(Some((value(spelt.as_slice()), rest)))
-    } else {
-        Ok(None)
-    }
+    let (field, rest) = cut(text)?;
+    let octets = figure(field.as_bytes())?;
+    Some((octets, rest))
 }
 
 // What a frame is signed under, and the rest of the text.
-fn read_signing(heap: Global, text: &str) -> Result<Option<(Signing, &str)>, AllocError>
-    ensures { IfOk result (λ o. MatchOption o ((s : Signing) (rest : List ℕ) → text.now ≢ signed_under s rest) (λ p. text.now ≡ signed_under p.0 p.1.now)) }
+fn read_signing(text: &str) -> Option<(Signing, &str)>
+    ensures { MatchOption result ((s : Signing) (rest : List ℕ) → text.now ≢ signed_under s rest) (λ p. text.now ≡ signed_under p.0 p.1.now) }
 {
-    let Some((crc, after)) = read_figure(heap, text, 2)? else {
-        return Ok(None);
-    };
-    let Some((number, rest)) = read_figure(heap, after, 3)? else {
-        return Ok(None);
-    };
-    let Some(number) = Number::of(number) else {
-        return Ok(None);
-    };
-    let crc = crc as u16;
-    Ok(Some((Signing { crc, number }, rest)))
+    let (crc, after) = read_figure(text)?;
+    let ([high, middle, low], rest) = read_figure::<3>(after)?;
+    let crc = u16::from_be_bytes(crc);
+    let number = Number { high, middle, low };
+    Some((Signing { crc, number }, rest))
 }
 
 // The octets of a line and its answer, which are its last two fields.
@@ -157,60 +113,46 @@ pub fn read_octets(heap: Global, text: &str) -> Result<Option<(Vec<u8>, Vec<u8>)
     let Some((field, rest)) = cut(text) else {
         return Ok(None);
     };
-    let Some(octets) = decode(heap, field.as_bytes())? else {
-        return Ok(None);
-    };
-    let Some(answer) = decode(heap, rest.as_bytes())? else {
-        return Ok(None);
-    };
-    Ok(Some((octets, answer)))
+    let octets = decode(heap, field.as_bytes())?;
+    let answer = decode(heap, rest.as_bytes())?;
+    Ok(octets.zip(answer))
 }
 
 // What a form asks, and the rest of the text.
-fn read_asked<'a>(
-    heap: Global,
-    form: &str,
-    text: &'a str,
-) -> Result<Option<(Asked, &'a str)>, AllocError>
-    ensures { IfOk result (λ o. MatchOption o ((a : Asked) (rest : List ℕ) → form.now ≡ form_word a → text.now ≢ headed a rest) (λ p. (form.now ≡ form_word p.0) × (text.now ≡ headed p.0 p.1.now))) }
+fn read_asked<'a>(form: &str, text: &'a str) -> Option<(Asked, &'a str)>
+    ensures { MatchOption result ((a : Asked) (rest : List ℕ) → form.now ≡ form_word a → text.now ≢ headed a rest) (λ p. (form.now ≡ form_word p.0) × (text.now ≡ headed p.0 p.1.now)) }
 {
     match form {
-        "sign" => match read_signing(heap, text)? {
-            Some((signing, rest)) => Ok(Some((Asked::Sign(signing), rest))),
-            None => Ok(None),
-        },
-        "fits" => match read_signing(heap, text)? {
-            Some((signing, rest)) => Ok(Some((Asked::Fits(signing), rest))),
-            None => Ok(None),
-        },
-        "run" => match read_figure(heap, text, 4)? {
-            Some((start, rest)) => Ok(Some((Asked::Run(start), rest))),
-            None => Ok(None),
-        },
-        _ => Ok(None),
+        "sign" => read_signing(text).map(|(signing, rest)| (Asked::Sign(signing), rest)),
+        "fits" => read_signing(text).map(|(signing, rest)| (Asked::Fits(signing), rest)),
+        "run" => read_figure(text).map(|(start, rest)| (
+            Asked::Run(u32::from_be_bytes(start)),
+            rest,
+        )),
+        _ => None,
     }
+}
+
+// The kind and the question that a line begins with, and the rest of the line.
+fn read_head(line: &str) -> Option<(KindName, Asked, &str)>
+    ensures { MatchOption result ((k : KindName) (a : Asked) (rest : List ℕ) → line.now ≢ opened k a rest) (λ p. line.now ≡ opened p.0 p.1 p.2.now) }
+{
+    let (form, after_form) = cut(line)?;
+    let (word, after_kind) = cut(after_form)?;
+    let kind = word.parse::<KindName>().ok()?;
+    let (asked, rest) = read_asked(form, after_kind)?;
+    Some((kind, asked, rest))
 }
 
 // The vector that a line writes; none if it writes none.
 pub fn read(heap: Global, line: &str) -> Result<Option<Vector>, AllocError>
     ensures { IfOk result (λ o. MatchOption o ((k : KindName) (a : Asked) (os answer : List ℕ) → line.now ≢ written k a os answer) (λ v. line.now ≡ line_of v)) }
 {
-    let Some((form, after_form)) = cut(line) else {
+    let Some((kind, asked, rest)) = read_head(line) else {
         return Ok(None);
     };
-    let Some((word, after_kind)) = cut(after_form) else {
-        return Ok(None);
-    };
-    let Some(kind) = KindName::of(word) else {
-        return Ok(None);
-    };
-    let Some((asked, rest)) = read_asked(heap, form, after_kind)? else {
-        return Ok(None);
-    };
-    let Some((octets, answer)) = read_octets(heap, rest)? else {
-        return Ok(None);
-    };
-    Ok(Some(Vector {
+    let fields = read_octets(heap, rest)?;
+    Ok(fields.map(|(octets, answer)| Vector {
         kind,
         asked,
         octets,

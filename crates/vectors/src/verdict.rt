@@ -1,15 +1,16 @@
 // What the code answers to a vector, and whether that is what its line says.
 ghost use Rattle.std.specs.Prelude.{◌≡◌, take, IfOk, Decides};
 ghost use Rattle.signature.specs.Kind.{feed};
-ghost use Rattle.vectors.specs.Due.{answered, model_of};
+ghost use Rattle.kinds.specs.Names.{model_of};
+ghost use Rattle.vectors.specs.Due.{answered};
 ghost use Rattle.vectors.specs.Verdicts.{Judges};
 
-use crate::table::{Asked, KindName, Vector, read};
-use kinds::{C3, S3, S4};
-use signature::{SignatureKind, fits, sign};
+use crate::table::{Asked, Vector, read};
+use kinds::{C3, KindName, S3, S4};
+use signature::{SignatureKind, register_after};
 use std::alloc::{AllocError, Global};
 
-// What comes of a line.
+// What comes of a line: three cases of equal standing, which neither an Option nor a Result has.
 #[derive(Drop)]
 pub enum Verdict {
     // It says what the code answers.
@@ -18,17 +19,6 @@ pub enum Verdict {
     Differs { vector: Vector, given: Vec<u8> },
     // It writes no vector.
     Malformed,
-}
-
-// The register after octets.
-fn run<K: SignatureKind>(start: u32, body: &[u8]) -> u32
-    ensures { result ≡ feed K.SignatureKind.model start body.now }
-{
-    let mut register = start;
-    for o in body {
-        register = K::step(register, *o);
-    }
-    register
 }
 
 // The octets of a signature, without the zeros after them.
@@ -46,13 +36,13 @@ fn answer_under<K: SignatureKind>(
     ensures { IfOk result (λ v. v.items ≡ answered K.SignatureKind.model asked body.now) }
 {
     match asked {
-        Asked::Sign(s) => leading::<K>(heap, sign::<K>(s.crc, s.number, body)),
-        Asked::Fits(s) => Vec::from_slice(heap, &[u8::from(fits::<K>(s.crc, s.number, body))]),
-        Asked::Run(start) => leading::<K>(heap, K::signature(run::<K>(start, body))),
+        Asked::Sign(s) => leading::<K>(heap, s.sign::<K>(body)),
+        Asked::Fits(s) => Vec::from_slice(heap, &[u8::from(s.fits::<K>(body))]),
+        Asked::Run(start) => leading::<K>(heap, K::signature(register_after::<K>(start, body))),
     }
 }
 
-// What the code answers.
+// What the code answers. A match, since no closure is generic over a type.
 fn answer(heap: Global, kind: KindName, asked: Asked, body: &[u8]) -> Result<Vec<u8>, AllocError>
     ensures { IfOk result (λ v. v.items ≡ answered (model_of kind) asked body.now) }
 {
@@ -63,13 +53,6 @@ fn answer(heap: Global, kind: KindName, asked: Asked, body: &[u8]) -> Result<Vec
     }
 }
 
-// Whether two slices hold the same octets.
-fn same(a: &[u8], b: &[u8]) -> bool
-    ensures { Decides result (a.now ≡ b.now) }
-{
-    a == b
-}
-
 // What comes of a line of the table.
 pub fn judge(heap: Global, line: &str) -> Result<Verdict, AllocError>
     ensures { IfOk result (λ v. Judges line.now v) }
@@ -78,7 +61,7 @@ pub fn judge(heap: Global, line: &str) -> Result<Verdict, AllocError>
         return Ok(Verdict::Malformed);
     };
     let given = answer(heap, vector.kind, vector.asked, &vector.octets)?;
-    if same(&vector.answer, &given) {
+    if vector.answer == given {
         Ok(Verdict::Agrees(vector))
     } else {
         Ok(Verdict::Differs { vector, given })

@@ -9,36 +9,31 @@ use kinds::{C3, S3};
 use signature::SignatureKind;
 
 // Every signature kind keeps the laws that the statement asks for.
-fn lawful<K: SignatureKind>() -> u8
+fn lawful<K: SignatureKind>()
     ensures { Laws K.SignatureKind.model }
-{
-    0
-}
+{}
 
-// The statement speaks of the three-octet kind of the field.
-pub fn s3_is_lawful() -> u8
+// The statement speaks of the three-octet kind of the field. One function for each kind, since its name and its law
+// are all that it has.
+pub fn s3_is_lawful()
     ensures { Laws s3 }
 {
-    lawful::<S3>()
+    lawful::<S3>();
 }
 
 // It speaks of the bench kind too.
-pub fn c3_is_lawful() -> u8
+pub fn c3_is_lawful()
     ensures { Laws c3 }
 {
-    lawful::<C3>()
+    lawful::<C3>();
 }
 
 // The run under the three-octet kind of the field.
-pub fn reached_by_s3() -> u8
+pub fn reached_by_s3()
     ensures { ReachedByS3 }
-{
-    0
-}
+{}
 
 // The run under the bench kind.
-pub fn reached_by_c3() -> u8
+pub fn reached_by_c3()
     ensures { ReachedByC3 }
-{
-    0
-}
+{}

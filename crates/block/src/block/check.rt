@@ -1,5 +1,5 @@
 // The checks of a parameter block.
-ghost use Rattle.std.specs.Prelude.{◌≡◌, ◌+◌, ◌<◌, length, Err};
+ghost use Rattle.std.specs.Prelude.{◌≡◌, ◌+◌, ◌<◌, length, Ok, Err, if◌then◌else◌, MatchOption};
 ghost use Rattle.refusal.specs.Refusals.{refusal_at};
 ghost use Rattle.block.specs.Accepted.{setups};
 ghost use Rattle.block.specs.Checks.{checked, is_address};
@@ -8,50 +8,41 @@ ghost use Rattle.block.specs.Order.{ChecksInOrder};
 
 use super::{CheckedBlock, RawBlock};
 use crate::par::par_crc;
-use crate::setup::Setup;
+use crate::setup::{Own, Setup};
 use refusal::{Reason, Refusal};
 use signature::SignatureKind;
 use std::marker::PhantomData;
 
-// Goes on if a condition holds, and else turns the block down.
-macro_rules! ensure {
-    ($holds:expr, $reason:expr, $found:expr) => {
-        if !$holds {
-            return refused($reason, $found);
-        }
-    };
-}
-
 impl RawBlock<'_> {
-    // Checks a block against the end's own address and SIL rank and the data lengths out and in.
-    pub fn check<K: SignatureKind>(
-        self,
-        own: (u16, u8),
-        lengths: (usize, usize),
-    ) -> Result<CheckedBlock<K>, Refusal>
-        ensures { setups result ≡ checked K.SignatureKind.model.width K.SignatureKind.limit self.entry.octets.now own lengths }
+    // Checks a block against what the end is.
+    pub fn check<K: SignatureKind>(self, own: Own) -> Result<CheckedBlock<K>, Refusal>
+        ensures { setups result ≡ checked K.SignatureKind.model.width K.SignatureKind.limit self.entry.octets.now own }
     {
         let octets = self.octets;
-        ensure!(octets.len() == 10, Reason::BlockLength, 0);
+        ensure(octets.len() == 10, Reason::BlockLength, 0)?;
         let crc = field(octets, 8);
-        ensure!(crc == par_crc(&octets[0..8]), Reason::BlockSignature, 0);
-        ensure!(flag1_allowed(octets[0]), Reason::BlockFlags, 0);
-        ensure!(flag2_allowed(octets[1]), Reason::BlockFlags, 1);
+        ensure(crc == par_crc(&octets[0..8]), Reason::BlockSignature, 0)?;
+        ensure(flag1_allowed(octets[0]), Reason::BlockFlags, 0)?;
+        ensure(flag2_allowed(octets[1]), Reason::BlockFlags, 1)?;
         let destination = field(octets, 4);
-        ensure!(is_address(field(octets, 2)), Reason::SourceAddress, 0);
-        ensure!(is_address(destination), Reason::DestinationAddress, 0);
-        ensure!(destination == own.0, Reason::OtherDestination, 0);
+        ensure(is_address(field(octets, 2)), Reason::SourceAddress, 0)?;
+        ensure(is_address(destination), Reason::DestinationAddress, 0)?;
+        ensure(destination == own.address, Reason::OtherDestination, 0)?;
         let watch = field(octets, 6);
-        ensure!(watch > 0, Reason::NoWatchTime, 0);
-        ensure!(sil_rank(octets[0]) <= own.1, Reason::SilRank, 0);
-        ensure!(crc_width(octets[0]) == K::width(), Reason::WidthOrLimit, 0);
-        ensure!(lengths.0 <= K::limit(), Reason::WidthOrLimit, 0);
-        ensure!(lengths.1 <= K::limit(), Reason::WidthOrLimit, 0);
+        ensure(watch > 0, Reason::NoWatchTime, 0)?;
+        ensure(sil_rank(octets[0]) <= own.rank, Reason::SilRank, 0)?;
+        ensure(
+            crc_width(octets[0]) == Some(K::width()),
+            Reason::WidthOrLimit,
+            0,
+        )?;
+        ensure(own.out_len <= K::limit(), Reason::WidthOrLimit, 0)?;
+        ensure(own.in_len <= K::limit(), Reason::WidthOrLimit, 0)?;
         let setup = Setup {
             crc,
             watch,
-            out_len: lengths.0 as u8,
-            in_len: lengths.1 as u8,
+            out_len: own.out_len as u8,
+            in_len: own.in_len as u8,
         };
         Ok(CheckedBlock {
             setup,
@@ -60,10 +51,15 @@ impl RawBlock<'_> {
     }
 }
 
-fn refused<K: SignatureKind>(reason: Reason, found: usize) -> Result<CheckedBlock<K>, Refusal>
-    ensures { setups result ≡ Err (refusal_at reason found) }
+// Goes on if a condition holds, and else turns the block down.
+fn ensure(holds: bool, reason: Reason, found: usize) -> Result<(), Refusal>
+    ensures { result ≡ if holds then Ok tt else Err (refusal_at reason found) }
 {
-    Err(Refusal::at(reason, found))
+    if holds {
+        Ok(())
+    } else {
+        Err(Refusal::at(reason, found))
+    }
 }
 
 impl<K: SignatureKind> CheckedBlock<K> {
@@ -86,7 +82,7 @@ fn field(block: &[u8], at: usize) -> u16
     requires { at + 1 < length block.now }
     ensures { result ≡ field_at block.now at }
 {
-    u16::from(block[at]) * 256 + u16::from(block[at + 1])
+    u16::from_be_bytes([block[at], block[at + 1]])
 }
 
 // Whether F_Check_iPar and the reserved bits of the first flag octet are 0.
@@ -103,7 +99,8 @@ fn flag2_allowed(flags: u8) -> bool
     flags % 8 == 0 && (flags >> 3) % 8 == 0 && flags >> 6 == 1
 }
 
-// The rank of F_SIL.
+// The rank of F_SIL; 0, below every rank, where it asks for none (an Option would only be turned into
+// that 0 to be compared).
 fn sil_rank(flags: u8) -> u8
     ensures { result ≡ rank_of flags }
 {
@@ -115,15 +112,15 @@ fn sil_rank(flags: u8) -> u8
     }
 }
 
-// The octets of a signature by F_CRC_Length.
-fn crc_width(flags: u8) -> usize
-    ensures { result ≡ width_of flags }
+// The octets of a signature by F_CRC_Length, if it names a length.
+fn crc_width(flags: u8) -> Option<usize>
+    ensures { MatchOption result (width_of flags ≡ 0) (λ width. (width ≡ width_of flags) × (0 < width)) }
 {
     match (flags >> 4) % 4 {
-        0 => 3,
-        1 => 2,
-        2 => 4,
-        _ => 0,
+        0 => Some(3),
+        1 => Some(2),
+        2 => Some(4),
+        _ => None,
     }
 }
 

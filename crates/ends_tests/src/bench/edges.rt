@@ -1,8 +1,10 @@
 // Refused calls at their edges, which change nothing; kept frames; blocks; numbers.
-use super::{Bench, INTO_RUN, Row, Step, first, follow, said};
+use super::{Bench, INTO_RUN, Row, Step, end, first, follow, said};
 use block::RawBlock;
 use kinds::S3;
-use signature::{Number, SignatureKind};
+use machine::Outcome;
+use refusal::Refusal;
+use signature::{Number, SignatureKind, TooLarge};
 use std::process::Abort;
 use std::test::Fail;
 
@@ -28,49 +30,29 @@ const DEVICE_OFFERS: [(usize, u8, usize, &str); 7] = [
     (3, 3, 0, "refused 13"),
 ];
 
-fn refused_host_offers(rt: &impl Abort, bench: &mut Bench<S3>) {
-    for (count, wish, room, word) in &HOST_OFFERS {
+// Offers at one end, each into a buffer of its own.
+fn refused_offers<F>(rt: &impl Abort, offers: &[(usize, u8, usize, &str)], mut offer: F)
+where
+    F: FnMut(&[u8], u8, &mut [u8]) -> Result<Outcome, Refusal>,
+    requires { F.IsAlwaysCallable offer }
+{
+    for (count, wish, room, word) in offers {
         let mut buffer = [7u8; 12];
         assert!(rt; *room <= 12);
-        let answer = bench
-            .host
-            .offer(first(&[9, 9, 9, 9], *count), *wish, &mut buffer[0..*room]);
+        let answer = offer(first(&[9, 9, 9, 9], *count), *wish, &mut buffer[0..*room]);
         assert_eq!(rt; said(answer), *word);
         assert_eq!(rt; buffer, [7u8; 12]);
     }
 }
 
-fn refused_device_offers(rt: &impl Abort, bench: &mut Bench<S3>) {
-    for (count, flags, room, word) in &DEVICE_OFFERS {
-        let mut buffer = [7u8; 12];
-        assert!(rt; *room <= 12);
-        let answer = bench.device.offer(
-            first(&[9, 9, 9, 9], *count),
-            *flags,
-            &mut buffer[0..*room],
-        );
-        assert_eq!(rt; said(answer), *word);
-        assert_eq!(rt; buffer, [7u8; 12]);
-    }
-}
-
-// Frames to the device, which have six octets.
-fn refused_to_device(rt: &impl Abort, bench: &mut Bench<S3>) {
-    for size in [0, 5, 7] {
-        assert_eq!(rt;
-            said(bench.device.take(first(&[0x14; 12], size))),
-            "refused 10"
-        );
-    }
-}
-
-// Frames to the host, which have seven.
-fn refused_to_host(rt: &impl Abort, bench: &mut Bench<S3>) {
-    for size in [0, 6, 8] {
-        assert_eq!(rt;
-            said(bench.host.take(first(&[0x50; 12], size))),
-            "refused 10"
-        );
+// Frames to one end, of lengths that it does not take.
+fn refused_frames<F>(rt: &impl Abort, octet: u8, sizes: [usize; 3], mut take: F)
+where
+    F: FnMut(&[u8]) -> Result<Outcome, Refusal>,
+    requires { F.IsAlwaysCallable take }
+{
+    for size in sizes {
+        assert_eq!(rt; said(take(first(&[octet; 12], size))), "refused 10");
     }
 }
 
@@ -100,10 +82,14 @@ const REPEATED: [Row; 2] = [
 
 // Refused calls on a bench; then it goes on, and so does its twin, on which none were made.
 fn in_step(rt: &impl Abort, bench: &mut Bench<S3>, twin: &mut Bench<S3>, rows: &[Row]) {
-    refused_host_offers(rt, bench);
-    refused_device_offers(rt, bench);
-    refused_to_device(rt, bench);
-    refused_to_host(rt, bench);
+    refused_offers(rt, &HOST_OFFERS, |values, wish, buffer| {
+        bench.host.offer(values, wish, buffer)
+    });
+    refused_offers(rt, &DEVICE_OFFERS, |values, flags, buffer| {
+        bench.device.offer(values, flags, buffer)
+    });
+    refused_frames(rt, 0x14, [0, 5, 7], |frame| bench.device.take(frame));
+    refused_frames(rt, 0x50, [0, 6, 8], |frame| bench.host.take(frame));
     refused_readings(rt, bench);
     follow(rt, bench, rows);
     follow(rt, twin, rows);
@@ -195,7 +181,7 @@ fn readings(rt: HostRuntime) -> Result<(), Fail> {
 
 // Refusals of a block that no book can show: number and place.
 #[test]
-fn blocks_of_other_ends(rt: HostRuntime) -> Result<(), Fail> {
+fn blocks_of_other_ends(rt: HostRuntime) {
     let whole = [
         0x08, 0x40, 0x00, 0x01, 0x00, 0x02, 0x00, 0x64, 0xc3, 0x57, 0x00,
     ];
@@ -207,20 +193,20 @@ fn blocks_of_other_ends(rt: HostRuntime) -> Result<(), Fail> {
     ];
     for (size, address, rank, due) in &table {
         let octets = first(&whole, *size);
-        match (RawBlock { octets }).check::<S3>((*address, *rank), (2, 3)) {
-            Ok(_) => return Err(Fail::new("accepted")),
-            Err(refusal) => assert_eq!(rt; (refusal.reason.number(), refusal.place), *due),
-        }
+        let checked = (RawBlock { octets }).check::<S3>(end(*address, *rank));
+        let refused = checked
+            .err()
+            .map(|refusal| (refusal.reason.number(), refusal.place));
+        assert_eq!(rt; refused, Some(*due));
     }
-    Ok(())
 }
 
 #[test]
 fn numbers_go_round_to_one(rt: HostRuntime) -> Result<(), Fail> {
     for (number, next) in [(0, 1), (1, 2), (0xfffffe, 0xffffff), (0xffffff, 1)] {
-        let before = Number::of(number).ok_or("no number")?;
-        assert_eq!(rt; before.next().value(), next);
+        let before = Number::try_from(number)?;
+        assert_eq!(rt; u32::from(before.next()), next);
     }
-    assert!(rt; Number::of(0x1000000).is_none());
+    assert_eq!(rt; Number::try_from(0x1000000), Err(TooLarge(0x1000000)));
     Ok(())
 }

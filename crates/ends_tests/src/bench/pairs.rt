@@ -9,11 +9,8 @@ use std::test::Fail;
 
 fn same_words(rt: &impl Abort, answers: &[Result<Outcome, Refusal>], words: &[&str]) {
     assert_eq!(rt; answers.len(), words.len());
-    let mut at = 0usize;
-    for answer in answers {
-        assert!(rt; at < words.len());
-        assert_eq!(rt; said(*answer), words[at]);
-        at = at.saturating_add(1);
+    for (answer, word) in answers.iter().zip(words) {
+        assert_eq!(rt; said(*answer), *word);
     }
 }
 

@@ -1,11 +1,11 @@
--- One octet more, and all of them.
-use Rattle.std.proofs.Common.{rules}
-use Rattle.std.proofs.lemmas.List.Sums.{fold_more}
-use Rattle.std.proofs.lemmas.List.{take_all}
+-- A register of the rule has 16 bits.
+use Rattle.std.proofs.Common.{rules, ◌≡◌, ◌^◌, ◌<◌, arith}
+use Rattle.block.specs.ParCrc.{par_crc}
+use Rattle.block.proofs.Taken.{crc_lt}
 use Rattle.block.proofs.par.par_crc.Goals as goal
 
-pub loop-o-preserved : goal.loop-o-preserved
-loop-o-preserved c = search (rules, fold_more)
-
-pub returns : goal.returns
-returns c = search (rules, take_all)
+pub overflow_cast-result : goal.overflow_cast-result
+overflow_cast-result c =
+    let same : c.fold.result ≡ par_crc c.args.octets.now = search rules in
+    let small : par_crc c.args.octets.now < 2 ^ 16 = crc_lt c.args.octets.now 0 (omega arith) in
+    omega (arith, same, small)

@@ -1,8 +1,8 @@
 -- Each record takes the reading on, and where it ends there is nothing more, or no record.
-use Rattle.std.proofs.Common.{ℕ, Some, ◌∙◌, sym, ap, subst}
+use Rattle.std.proofs.Common.{ℕ, [], Some, ◌∙◌, sym, ap, subst}
 use Rattle.book.specs.declared.reader.Book.{Book}
 use Rattle.book.specs.Steps.{Step}
-use Rattle.shiftbook.proofs.Reached.{Reached, begun, one_more, at_the_end, at_refusal}
+use Rattle.book.proofs.Reached.{Reached, begun, one_more, at_the_end, at_refusal}
 use Rattle.shiftbook.proofs.ending.ending.Goals as goal
 
 pub loop-item-init : goal.loop-item-init
@@ -10,7 +10,8 @@ loop-item-init c =
     let h = c.in-Ok.ensures in
     let e = c.into_iter-item-iterator.ensures.into_iter_gives in (
       ap (λ (b : Book). b.octets.now) e ∙ h.1,
-      subst (λ (p : ℕ). Reached c.args.octets.now p) (sym (ap (λ (b : Book). b.at) e ∙ h.2)) (begun c.args.octets.now h.0),
+      [],
+      subst (λ (p : ℕ). Reached c.args.octets.now p []) (sym (ap (λ (b : Book). b.at) e ∙ h.2)) (begun c.args.octets.now h.0),
     )
 
 pub loop-item-preserved : goal.loop-item-preserved
@@ -18,16 +19,16 @@ loop-item-preserved c =
     let i = c.loop-item.invariant in
     let b = c.loop-item.item-iterator in
     let s = subst (λ r. Step b (Some r) c.next.new.self) c.in_default.is c.in-Some.ensures.steps in
-    (s.3 ∙ i.0, one_more c.args.octets.now b c.next.new.self c.in_default.field-0 i.0 s i.1)
+    (s.3 ∙ i.0, _, one_more _ b c.next.new.self i.1 i.0 i.2 c.in_default.field-0 s)
 
 pub returns-in-Err-item : goal.returns-in-Err-item
 returns-in-Err-item c =
     let i = c.loop-item.invariant in
     let b = c.loop-item.item-iterator in
     let s = subst (λ r. Step b (Some r) c.next.new.self) c.in-Err-item.is c.in-Some.ensures.steps in
-    at_refusal c.args.octets.now b c.next.new.self c.in-Err-item.refusal i.0 s i.1
+    (i.1, at_refusal _ b c.next.new.self i.1 i.0 i.2 c.in-Err-item.refusal s)
 
 pub returns : goal.returns
 returns c =
     let i = c.loop-item.invariant in
-    at_the_end c.args.octets.now c.loop-item.item-iterator c.next.new.self i.0 c.in-None.ensures.steps i.1
+    (i.1, at_the_end _ c.loop-item.item-iterator c.next.new.self i.1 i.0 i.2 c.in-None.ensures.steps)

@@ -1,16 +1,12 @@
 -- One octet more, no octet where there should be one, and the end of the text.
-use Rattle.std.proofs.Common.{ℕ, List, vec_items, sym, subst, rules}
-use Rattle.vectors.proofs.Hexes.{Reading, no_octet, one_more, whole}
+use Rattle.std.proofs.Common.{ℕ, List, vec_items, sym, subst}
+use Rattle.vectors.proofs.Hexes.{Reading, one_more, read_out}
 use Rattle.vectors.proofs.table.decode.Goals as goal
 
-pub returns-in_default : goal.returns-in_default
-returns-in_default c =
-    no_octet _ (vec_items c.loop-left.octets) c.loop-left.left.now c.in_default.ensures (search rules) c.loop-left.invariant
-
-pub loop-left-preserved : goal.loop-left-preserved
-loop-left-preserved c =
+pub loop-o-preserved : goal.loop-o-preserved
+loop-o-preserved c =
     subst (λ (os : List ℕ). Reading c.args.text.now os c.in-Some.rest.now) (sym c.in_ok-push.ensures.items)
-    (one_more _ (vec_items c.loop-left.octets) c.loop-left.left.now c.in-Some.o c.in-Some.rest.now c.in-Some.ensures c.loop-left.invariant)
+    (one_more _ (vec_items c.loop-o.octets) c.loop-o.left.now c.in-Some.o c.in-Some.rest.now c.in-Some.ensures.0 c.loop-o.invariant)
 
 pub returns : goal.returns
-returns c = whole _ (vec_items c.loop-left.octets) c.loop-left.left.now (search rules) c.loop-left.invariant
+returns c = rw c.then_some.ensures (read_out vec_items _ c.loop-o.octets c.loop-o.left.now _ c.is_empty.ensures c.in_default.ensures c.loop-o.invariant)

@@ -1,7 +1,0 @@
--- What the loop keeps: the register after the octets so far.
-use Rattle.std.proofs.Common.{◌≡◌, take}
-use Rattle.signature.specs.Kind.{feed}
-use Rattle.vectors.proofs.verdict.run.Given as goal
-
-abbrev pub invariant-loop-o : goal.invariant-loop-o
-invariant-loop-o g l = l.register ≡ feed g.K.SignatureKind.model l.start (take l.o-index l.body)

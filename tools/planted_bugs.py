@@ -39,7 +39,8 @@ Verdict = collections.namedtuple("Verdict", "word detail")
 
 # What the prover prints. A fact that fails stands in a note about a source, or in an error of a written proof: there
 # what is to be shown is another fact than the proof shows. Any other error of a proof is of its names or its form.
-FACT = re.compile(r"^note: (\S+\.rt:\d+):\d+: it is not proved that (.*)")
+# The invariants of a type are one fact where they are all asked for, and of that the note says that no proof was found.
+FACT = re.compile(r"^note: (\S+\.rt:\d+):\d+: (?:it is not proved that |(?=`search` found no proof ))(.*)")
 BUILD = re.compile(r"^(\S+\.rt:\d+):\d+: error(?:\[([\w-]+)\])?: (.*)")
 PROOF = re.compile(r"^(\S+\.antt:\d+):\d+: error: (.*)")
 FALSE = re.compile(r"no proof of|does not follow|two types (first )?differ|: expected type|give a proof of that")

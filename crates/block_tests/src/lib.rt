@@ -1,5 +1,5 @@
+// Tests of the parameter block at its limits, as tables.
 #![tactic(auto)]
 
-// Tests of the parameter block at its limits, as tables.
 #[cfg(test)]
 mod tests;

@@ -1,4 +1,5 @@
 // Books read record by record, and the edges where reading refuses.
+use super::too_large;
 use book::{Book, Kind};
 use refusal::Layer;
 use std::test::Fail;
@@ -7,7 +8,7 @@ const WORKED: &[u8] =
     b"\x01\x00\x0d\x01\x00\x00\x08\x40\x00\x01\x00\x02\x00\x64\xc3\x57\x00\x02\x02\x00\x00\x05\x03\x14\xbe\xa3\x1f\x00\x02\x04\x00\x00\x05\x05\x50\xa1\x0c\x1e";
 
 // How many records there are, and then the number and the place of the refusal, or 0 and the size. They
-// are counted by hand, since what ends the reading is told beside them.
+// are counted by hand, since what ends the reading is told beside them; one row of a table has both.
 fn reading(octets: &[u8]) -> (usize, u8, usize) {
     let mut records = 0usize;
     let book = match Book::open(octets) {
@@ -138,12 +139,7 @@ fn each_octet_stands_for_its_kind(rt: HostRuntime) -> Result<(), Fail> {
 
 #[test]
 fn the_largest_book_and_one_octet_more(rt: HostRuntime) -> Result<(), Fail> {
-    let mut octets = vec![in rt.alloc(); 0u8; 65_536]?;
-    assert!(rt; octets.len() == 65_536);
-    octets[0] = 1;
-    octets[1] = 255;
-    octets[2] = 252;
-    octets[3] = 3;
+    let mut octets = too_large(&rt, rt.alloc())?;
     assert_eq!(rt; reading(&octets), (0, 15, 0));
     octets.truncate(65_535);
     assert_eq!(rt; reading(&octets), (1, 0, 65_535));

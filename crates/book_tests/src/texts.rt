@@ -1,4 +1,5 @@
 // What is printed of a book that starts no pair: the records are turned down and the run goes on.
+use super::too_large;
 use std::test::Fail;
 use transcript::transcript;
 
@@ -30,12 +31,7 @@ fn the_text_of_some_books(rt: HostRuntime) -> Result<(), Fail> {
 
 #[test]
 fn the_text_of_the_largest_book(rt: HostRuntime) -> Result<(), Fail> {
-    let mut octets = vec![in rt.alloc(); 0u8; 65_536]?;
-    assert!(rt; octets.len() == 65_536);
-    octets[0] = 1;
-    octets[1] = 255;
-    octets[2] = 252;
-    octets[3] = 3;
+    let mut octets = too_large(&rt, rt.alloc())?;
     let said = transcript(rt.alloc(), &octets)?;
     assert_eq!(rt; said.as_str(), "refused 15 0\n");
     octets.truncate(65_535);

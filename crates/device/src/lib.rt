@@ -66,6 +66,7 @@ impl<K: SignatureKind> Device<K> {
         }
     }
 
+    // Phase, number and cause stand at both ends, see the host's.
     pub fn phase(&self) -> DevicePhase
         ensures { result ≡ self.now.state.phase }
     {

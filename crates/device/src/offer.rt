@@ -57,17 +57,17 @@ impl<K: SignatureKind> Device<K> {
     fn composed(&self, values: Values<'_>, flags: u8) -> Frame
         ensures { framed result ≡ device_composed K.SignatureKind.model self.now.setup self.now.state values.entry.octets.now flags }
     {
-        let zeros = Frame::zeros(self.setup.in_len);
-        let data = match self.phase {
-            DevicePhase::Run if !self.safe(flags) => values.as_slice(),
-            _ => zeros.as_slice(),
+        let sent = match self.phase {
+            DevicePhase::Run if !self.safe(flags) => Some(values),
+            _ => None,
         };
-        Frame::compose::<K>(self.setup.signing(self.number), data, self.status(flags))
+        let signing = self.setup.signing(self.number);
+        Frame::offered::<K>(signing, sent, self.setup.in_len, self.status(flags))
     }
 
     // Writes an answer to the front of a buffer: in run the kept one again, or a new one, which is
-    // then kept; while the device waits, one that tells of its fault. The flags are an octet, as books
-    // and C bring them: one above 3 is refused.
+    // then kept; while the device waits, one that tells of its fault. The flags are an octet, since any
+    // is answered: one above 3 is refused.
     pub fn offer(&mut self, values: &[u8], flags: u8, buffer: &mut [u8]) -> Result<Outcome, Refusal>
         ensures answer { result ≡ device_offer_answer K.SignatureKind.model self.old.setup self.old.state values.now flags (length buffer.old) }
         ensures next { self.new ≡ record self.old { state = device_offer_next K.SignatureKind.model self.old.setup self.old.state values.now flags (length buffer.old) } }

@@ -8,6 +8,7 @@ use refusal::Refusal;
 use signature::SignatureKind;
 
 impl<K: SignatureKind> Device<K> {
+    // The host's ticks are much the same, but what a fault does to an end is not.
     // Ticks count in run; when they reach the watch time, that is a fault. Nothing is refused.
     pub fn tick(&mut self, ticks: u16) -> Result<Outcome, Refusal>
         ensures answer { result ≡ device_ticks_answer self.old.setup self.old.state ticks }

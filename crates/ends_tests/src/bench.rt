@@ -1,6 +1,7 @@
 // A bench for the tests: both ends, a button, and the frame that was last on each line.
 use block::{CheckedBlock, Own, RawBlock, par_crc};
 use device::Device;
+use frame::first;
 use host::{Button, Host};
 use machine::Outcome;
 use refusal::Refusal;
@@ -77,11 +78,6 @@ fn follow<K: SignatureKind>(rt: &impl Abort, bench: &mut Bench<K>, rows: &[Row])
     for (step, word) in rows {
         assert_eq!(rt; bench.make(*step), *word);
     }
-}
-
-// The octets at the front, as many as there are if the count is above that.
-fn first(octets: &[u8], count: usize) -> &[u8] {
-    &octets[..count.min(octets.len())]
 }
 
 // A frame with one bit of its first octet turned.

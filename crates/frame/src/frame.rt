@@ -1,5 +1,5 @@
 // A frame in fixed memory.
-ghost use Rattle.std.specs.Prelude.{◌≡◌, ℕ, ◌+◌, ◌≤◌, [], ◌∷◌, ◌++◌, length, take, replicate, slice_index};
+ghost use Rattle.std.specs.Prelude.{◌≡◌, ℕ, ◌+◌, ◌≤◌, [], ◌∷◌, ◌++◌, length, take, replicate, slice_index, MatchOption};
 ghost use Rattle.signature.specs.Kind.{signature};
 ghost use Rattle.signature.specs.Numbers.{numeral};
 ghost use Rattle.machine.specs.Answers.{answered, read_refused, unless, written};
@@ -7,6 +7,7 @@ ghost use Rattle.machine.specs.Frames.{composed, zeros};
 ghost use Rattle.frame.specs.Held.{framed};
 
 use crate::octets::{append_at, first, octet_at, write_front};
+use crate::values::Values;
 use refusal::{Reason, Refusal};
 use signature::{SignatureKind, Signing};
 
@@ -62,6 +63,21 @@ impl Frame {
         let signature = signing.sign::<K>(frame.as_slice());
         frame.push(&signature[..K::width()]);
         frame
+    }
+
+    // The frame of an offer: with its values, or with zeros where fail-safe values go out.
+    pub fn offered<K: SignatureKind>(
+        signing: Signing,
+        values: Option<Values<'_>>,
+        due: u8,
+        octet: u8,
+    ) -> Frame
+        ensures { MatchOption values.entry (framed result ≡ composed K.SignatureKind.model signing.crc (numeral signing.number) (zeros due) octet) (λ v. framed result ≡ composed K.SignatureKind.model signing.crc (numeral signing.number) v.octets.now octet) }
+    {
+        match values {
+            Some(values) => Frame::compose::<K>(signing, values.as_slice(), octet),
+            None => Frame::compose::<K>(signing, Frame::zeros(due).as_slice(), octet),
+        }
     }
 
     // More octets at the end, as many as there is room for.

@@ -27,8 +27,8 @@ pub fn write_front(buffer: &mut [u8], octets: &[u8])
     buffer[0..front.len()].copy_from_slice(front);
 }
 
-// For the fixed memory of a frame: adds octets after the first `size` octets of a room, as many as it has room for, and answers how many stand there
-// then.
+// For the fixed memory of a frame: adds octets after the first `size` octets of a room, as many as it
+// has room for, and answers how many stand there then.
 pub fn append_at(room: &mut [u8], size: usize, more: &[u8]) -> usize
     ensures octets { take result room.new ≡ take (length room.old) (take size room.old ++ more.now) }
     ensures bound { result ≤ length room.old }

@@ -74,8 +74,8 @@ impl<K: SignatureKind> Host<K> {
         *self = Host::started(self.setup, cause);
     }
 
-    // Writes the kept frame again, else composes one, keeps it and writes it. The wish is an octet, as
-    // books and C bring it: one above 1 is refused.
+    // Writes the kept frame again, else composes one, keeps it and writes it. The wish is an octet, since
+    // any is answered: one above 1 is refused.
     pub fn offer(&mut self, values: &[u8], wish: u8, buffer: &mut [u8]) -> Result<Outcome, Refusal>
         ensures answer { result ≡ host_offer_answer K.SignatureKind.model self.old.setup self.old.state values.now wish (length buffer.old) }
         ensures next { self.new ≡ record self.old { state = host_offer_next K.SignatureKind.model self.old.setup self.old.state values.now wish (length buffer.old) } }
@@ -99,12 +99,12 @@ impl<K: SignatureKind> Host<K> {
     fn composed(&self, values: Values<'_>, wish: u8) -> Frame
         ensures { framed result ≡ host_composed K.SignatureKind.model self.now.setup self.now.state values.entry.octets.now wish }
     {
-        let zeros = Frame::zeros(self.setup.out_len);
-        let data = match self.phase {
-            HostPhase::Run if !self.safe(wish) => values.as_slice(),
-            _ => zeros.as_slice(),
+        let sent = match self.phase {
+            HostPhase::Run if !self.safe(wish) => Some(values),
+            _ => None,
         };
-        Frame::compose::<K>(self.setup.signing(self.number), data, self.control(wish))
+        let signing = self.setup.signing(self.number);
+        Frame::offered::<K>(signing, sent, self.setup.out_len, self.control(wish))
     }
 
     // The control octet of an offer.

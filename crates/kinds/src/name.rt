@@ -11,6 +11,19 @@ pub enum KindName {
     C3,
 }
 
+// Calls a function, which is generic over its kind, under the kind of a name. A closure can't be
+// generic over a type, so that this is a macro.
+#[macro_export]
+macro_rules! under {
+    ($kind:expr, $call:ident($($argument:expr),*)) => {
+        match $kind {
+            $crate::KindName::S3 => $call::<$crate::S3>($($argument),*),
+            $crate::KindName::S4 => $call::<$crate::S4>($($argument),*),
+            $crate::KindName::C3 => $call::<$crate::C3>($($argument),*),
+        }
+    };
+}
+
 // A figure or a word that names no kind.
 #[derive(Clone, Copy, Debug, PartialEq, Eq)]
 pub struct NoSuchKind;

@@ -3,9 +3,9 @@ ghost use Rattle.std.specs.Prelude.{◌≡◌, length};
 ghost use Rattle.machine.specs.Answers.{written};
 ghost use Rattle.mizkaule.specs.Kinds.{fitted, judged, signs, signs_octets};
 
-use crate::answer::{Failure, Verdict};
+use crate::answer::Verdict;
+use crate::giving::give;
 use block::{Own, RawBlock};
-use refusal::{Reason, Refusal};
 use signature::{Number, SignatureKind, Signing};
 
 pub(crate) fn judge<K: SignatureKind>(octets: &[u8], own: Own) -> Verdict
@@ -15,19 +15,14 @@ pub(crate) fn judge<K: SignatureKind>(octets: &[u8], own: Own) -> Verdict
     Ok(0)
 }
 
+// Check value and number come apart, since C's number may have more than 24 bits.
 pub(crate) fn put<K: SignatureKind>(crc: u16, number: u32, octets: &[u8], out: &mut [u8]) -> Verdict
     ensures told { result ≡ signs K.SignatureKind.model number (length out.old) }
     ensures buffer { out.new ≡ written (signs_octets K.SignatureKind.model crc number octets.now (length out.old)) out.old }
 {
     let number = Number::try_from(number)?;
-    let width = K::width();
-    if out.len() < width {
-        let refusal = Refusal::at(Reason::BufferLength, 0);
-        return Err(Failure::TurnedDown(refusal, width));
-    }
     let padded = Signing { crc, number }.sign::<K>(octets);
-    out[..width].copy_from_slice(&padded[..width]);
-    Ok(width)
+    give(&padded[..K::width()], out)
 }
 
 pub(crate) fn fit<K: SignatureKind>(crc: u16, number: u32, frame: &[u8]) -> Verdict

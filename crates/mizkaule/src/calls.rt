@@ -7,19 +7,7 @@ ghost use Rattle.mizkaule.specs.Kinds.{fitted_by, judged_by, signs_by, signs_oct
 use crate::answer::{Answer, Verdict};
 use crate::by_kind::{fit, judge, put};
 use block::Own;
-use kinds::{C3, KindName, S3, S4};
-
-// Calls a function under the kind of a name. A closure can't be generic over a type, so that this
-// is a macro.
-macro_rules! under {
-    ($kind:expr, $call:ident($($argument:expr),*)) => {
-        match $kind {
-            KindName::S3 => $call::<S3>($($argument),*),
-            KindName::S4 => $call::<S4>($($argument),*),
-            KindName::C3 => $call::<C3>($($argument),*),
-        }
-    };
-}
+use kinds::{KindName, under};
 
 fn judge_by(kind: u8, octets: &[u8], own: Own) -> Verdict
     ensures { result ≡ judged_by kind octets.now own }

@@ -4,6 +4,7 @@
 mod answer;
 mod by_kind;
 mod calls;
+mod giving;
 mod replays;
 
 pub use answer::{Answer, Failure, Verdict};

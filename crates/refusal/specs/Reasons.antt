@@ -1,5 +1,5 @@
 -- The eighteen reasons for a refusal: the number, the layer and the text of each.
-use Rattle.std.specs.Prelude.{ℕ, List, codes}
+use Rattle.std.specs.Prelude.{◌≡◌, ℕ, List, codes}
 use Rattle.refusal.specs.declared.reason.Layer.{Layer}
 use Rattle.refusal.specs.declared.reason.Layer.TheVariants.{Block, End, Book}
 use Rattle.refusal.specs.declared.reason.Reason.{Reason}
@@ -24,6 +24,10 @@ number_of BookHead = 15
 number_of RecordLength = 16
 number_of RecordKind = 17
 number_of RecordOrder = 18
+
+-- no two reasons have one number
+abbrev pub OneReason : Type 0
+OneReason = (a b : Reason) → number_of a ≡ number_of b → a ≡ b
 
 -- 1 to 9 are a block's, 10 to 14 an end's, the others a book's
 abbrev pub layer_of : Reason → Layer

@@ -4,5 +4,5 @@
 mod reason;
 mod refused;
 
-pub use reason::{Layer, Reason};
+pub use reason::{Layer, Reason, a_number_tells_its_reason};
 pub use refused::Refusal;

@@ -1,8 +1,6 @@
 // The eighteen reasons for turning a call down, each with its number, its layer and its text.
-ghost use Rattle.std.specs.Prelude.{◌≡◌, Some, ◌==◌};
-ghost use Rattle.refusal.specs.Reasons.{layer_of, layer_name, number_of, text_of};
-ghost use Rattle.std.specs.Cmp.Rules.{comparing};
-ghost use Rattle.std.proofs.Common.{rules};
+ghost use Rattle.std.specs.Prelude.{◌≡◌, Some};
+ghost use Rattle.refusal.specs.Reasons.{OneReason, layer_of, layer_name, number_of, text_of};
 
 use std::fmt;
 
@@ -15,7 +13,7 @@ pub enum Layer {
 }
 
 // The number of a case is its place in this list, from 1; checks run down the list.
-#[derive(Clone, Copy, Debug)]
+#[derive(Clone, Copy, PartialEq, Debug)]
 pub enum Reason {
     BlockLength = 1,
     BlockSignature,
@@ -58,19 +56,8 @@ impl fmt::Display for Layer {
     }
 }
 
-// Written out, so that its promise is read here: reasons are equal if their numbers are. A derive
-// would promise it of the cases, and no line would say it of the numbers that books and C show.
-impl PartialEq for Reason {
-    ghost eq = { λ a b. (number_of a == number_of b) };
-
-    ghost laws = { Prim.search (comparing, rules) };
-
-    fn eq(&self, other: &Reason) -> bool {
-        self.number() == other.number()
-    }
-}
-
 impl Reason {
+    // As the pages call it, beside layer and text; the language converts.
     pub fn number(self) -> u8
         ensures { result ≡ number_of self }
     {
@@ -82,7 +69,7 @@ impl Reason {
         ensures { result ≡ layer_of self }
     {
         match self.number() {
-            0..=9 => Layer::Block,
+            1..=9 => Layer::Block,
             10..=14 => Layer::End,
             _ => Layer::Book,
         }
@@ -119,3 +106,8 @@ impl Reason {
         }
     }
 }
+
+// Reasons are equal if their numbers are, so that a number shown in a line or to C tells the reason.
+pub fn a_number_tells_its_reason()
+    ensures { OneReason }
+{}

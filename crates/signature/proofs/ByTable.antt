@@ -1,8 +1,9 @@
 -- Several bits at once, by what they make of the register 0.
-use Rattle.std.proofs.Common.{◌≡◌, ℕ, zero, suc, ◌+◌, ◌*◌, ◌/◌, ◌%◌, ◌^◌, ◌<◌, sym, ap, ◌∙◌, ap₂, mod-lt, add-mul, div-add-mod', mul_right_comm, arith, pow_pos}
+use Rattle.std.proofs.Common.{◌≡◌, ℕ, zero, suc, ◌+◌, ◌-◌, ◌*◌, ◌/◌, ◌%◌, ◌^◌, ◌<◌, ◌≤◌, bit_and, lt_of_lt_of_le, mod-eq_of_lt, pow_mono, shl_lt, sym, ap, ◌∙◌, ap₂, mod-lt, add-mul, div-add-mod', mul_right_comm, arith, pow_pos}
 use native.Mathlib.Nat.{mod-mod, mul-add-mod_self_right}
 use lib.Bits.{bit_xor, xor_assoc, xor_self, xor_zero_r}
 use lib.Pow.{field}
+use Rattle.std.proofs.lemmas.Nat.{and_mask}
 use Rattle.signature.specs.Rule.{bit_step, feed_bits}
 use Rattle.signature.proofs.Linear.{top_bit, step_is, bit_lt, feed_xor}
 use Rattle.signature.proofs.Kernel.{own, mod_mod_le}
@@ -48,3 +49,15 @@ by_table top p i j r o e =
     sym (feed_mod top p j r o)
     ∙ in_range top p i (suc j) s o e (mod-lt r (pow_pos (suc top)))
     ∙ ap₂ (λ (x y : ℕ). bit_xor (x * 2 ^ suc j) (feed_bits top p 0 (suc j) (bit_xor y o))) low high
+
+-- by an entry of a table, with a mask, at any register of at most four octets
+pub tabled_is : (k p r o : ℕ) → k ≤ 24
+    → bit_xor (bit_and r (2 ^ k - 1) * 256 % 2 ^ 32) (feed_bits (k + 7) p 0 8 (bit_xor (bit_and (r / 2 ^ k) 255) o)) ≡ feed_bits (k + 7) p r 8 o
+tabled_is k p r o h =
+    let small : r % 2 ^ k * 256 < 2 ^ (k + 8) = shl_lt k 8 (mod-lt r (pow_pos k)) in
+    let room : k + 8 ≤ 32 = omega arith in
+    let inside : r % 2 ^ k * 256 < 2 ^ 32 = lt_of_lt_of_le small (pow_mono room) in
+    let low : bit_and r (2 ^ k - 1) * 256 % 2 ^ 32 ≡ r % 2 ^ k * 256 =
+    ap (λ (x : ℕ). x * 256 % 2 ^ 32) (and_mask r k) ∙ mod-eq_of_lt inside in
+    ap₂ (λ (x y : ℕ). bit_xor x (feed_bits (k + 7) p 0 8 (bit_xor y o))) low (and_mask (r / 2 ^ k) 8)
+    ∙ sym (by_table (k + 7) p k 7 r o (omega arith))

@@ -1,5 +1,5 @@
 // A table of 256 registers that follows the bit rule, and the step by it.
-ghost use Rattle.std.specs.Prelude.{◌≡◌, ◌+◌, ◌≤◌, true};
+ghost use Rattle.std.specs.Prelude.{◌≡◌, ◌+◌, ◌≤◌, true, length};
 ghost use Rattle.signature.specs.Rule.{feed_bits};
 ghost use Rattle.signature.specs.Table.{computed, every};
 
@@ -9,6 +9,7 @@ pub struct RuledTable<const LOW: u32, const POLY: u32> {
     pub entries: &'static [u32; 256],
     ghost ruled: { every (computed (LOW + 7) POLY 8) 0 entries.now ≡ true },
     ghost narrow: { LOW ≤ 24 },
+    ghost full: { length entries.now ≡ 256 },
 }
 
 impl<const LOW: u32, const POLY: u32> RuledTable<LOW, POLY> {
@@ -18,13 +19,12 @@ impl<const LOW: u32, const POLY: u32> RuledTable<LOW, POLY> {
         ensures { result ≡ feed_bits (LOW + 7) POLY register 8 octet }
     {
         let high = ((register >> LOW) & 0xff) as u8;
-        ((register & ((1 << LOW) - 1)) << 8) ^ entry::<LOW, POLY>(self.entries, high ^ octet)
+        ((register & ((1 << LOW) - 1)) << 8) ^ self.entry(high ^ octet)
     }
-}
 
-fn entry<const LOW: u32, const POLY: u32>(table: &[u32; 256], octet: u8) -> u32
-    requires { every (computed (LOW + 7) POLY 8) 0 table.now ≡ true }
-    ensures { result ≡ feed_bits (LOW + 7) POLY 0 8 octet }
-{
-    table[octet as usize]
+    fn entry(&self, octet: u8) -> u32
+        ensures { result ≡ feed_bits (LOW + 7) POLY 0 8 octet }
+    {
+        self.entries[octet as usize]
+    }
 }

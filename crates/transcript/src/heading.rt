@@ -1,4 +1,4 @@
-// What a record's line begins with, and the lines made of it with an answer, and what is to be seen after it.
+// What a record's line begins with, and the lines that begin so.
 ghost use Rattle.std.specs.Prelude.{◌≡◌};
 ghost use Rattle.book.specs.Records.{kind_of_record};
 ghost use Rattle.transcript.specs.Replays.{answer_line, out_of_turn, turned_down};

@@ -6,11 +6,12 @@ ghost use Rattle.vectors.specs.Due.{answered};
 ghost use Rattle.vectors.specs.Verdicts.{Judges};
 
 use crate::table::{Asked, Vector, read};
-use kinds::{C3, KindName, S3, S4};
+use kinds::{KindName, under};
 use signature::{SignatureKind, register_after};
 use std::alloc::{AllocError, Global};
 
-// What comes of a line: three cases of equal standing, which neither an Option nor a Result has.
+// What comes of a line. No Result: a line that differs is an answer, with what it says and what the code gives, and one
+// that writes no vector has nothing to give; both are printed.
 #[derive(Drop)]
 pub enum Verdict {
     // It says what the code answers.
@@ -42,15 +43,11 @@ fn answer_under<K: SignatureKind>(
     }
 }
 
-// What the code answers. A match, since no closure is generic over a type.
+// What the code answers.
 fn answer(heap: Global, kind: KindName, asked: Asked, body: &[u8]) -> Result<Vec<u8>, AllocError>
     ensures { IfOk result (λ v. v.items ≡ answered (model_of kind) asked body.now) }
 {
-    match kind {
-        KindName::S3 => answer_under::<S3>(heap, asked, body),
-        KindName::S4 => answer_under::<S4>(heap, asked, body),
-        KindName::C3 => answer_under::<C3>(heap, asked, body),
-    }
+    under!(kind, answer_under(heap, asked, body))
 }
 
 // What comes of a line of the table.

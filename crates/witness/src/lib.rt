@@ -33,7 +33,7 @@ pub fn reached_by_s3()
     ensures { ReachedByS3 }
 {}
 
-// The run under the bench kind.
+// The run under the bench kind: a run of its own, with other octets.
 pub fn reached_by_c3()
     ensures { ReachedByC3 }
 {}

@@ -30,7 +30,12 @@ impl RawBlock<'_> {
         ensure(destination == own.address, Reason::OtherDestination, 0)?;
         let watch = field(octets, 6);
         ensure(watch > 0, Reason::NoWatchTime, 0)?;
-        ensure(sil_rank(octets[0]) <= own.rank, Reason::SilRank, 0)?;
+        let asked = sil_rank(octets[0]);
+        ensure(
+            asked.is_none_or(|rank| rank <= own.rank),
+            Reason::SilRank,
+            0,
+        )?;
         ensure(
             crc_width(octets[0]) == Some(K::width()),
             Reason::WidthOrLimit,
@@ -99,16 +104,15 @@ fn flag2_allowed(flags: u8) -> bool
     flags % 8 == 0 && (flags >> 3) % 8 == 0 && flags >> 6 == 1
 }
 
-// The rank of F_SIL; 0, below every rank, where it asks for none (an Option would only be turned into
-// that 0 to be compared).
-fn sil_rank(flags: u8) -> u8
-    ensures { result ≡ rank_of flags }
+// The rank that F_SIL asks for, if it asks for one.
+fn sil_rank(flags: u8) -> Option<u8>
+    ensures { MatchOption result (rank_of flags ≡ 0) (λ rank. rank ≡ rank_of flags) }
 {
     match (flags >> 2) % 4 {
-        0 => 1,
-        1 => 2,
-        2 => 3,
-        _ => 0,
+        0 => Some(1),
+        1 => Some(2),
+        2 => Some(3),
+        _ => None,
     }
 }
 

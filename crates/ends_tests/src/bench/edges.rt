@@ -1,6 +1,7 @@
 // Refused calls at their edges, which change nothing; kept frames; blocks; numbers.
-use super::{Bench, INTO_RUN, Row, Step, end, first, follow, said};
+use super::{Bench, INTO_RUN, Row, Step, end, follow, said};
 use block::RawBlock;
+use frame::first;
 use kinds::S3;
 use machine::Outcome;
 use refusal::Refusal;

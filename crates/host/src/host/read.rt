@@ -1,5 +1,5 @@
-// What a host shows of itself, and the readings that it hands out. The device shows the same of its own: one trait for
-// both would need a type for each phase and each state, and be longer than what it saves.
+// What a host shows of itself, and the readings that it hands out. The device shows the same of its own: a trait for
+// both would have a type of phases, a type of states and a law for each method, for three methods of a line.
 ghost use Rattle.std.specs.Prelude.{◌≡◌, length};
 ghost use Rattle.std.specs.Option.{option_copied};
 ghost use Rattle.signature.specs.Numbers.{numeral};

@@ -2,7 +2,7 @@
 use Rattle.std.proofs.Common.{◌≡◌, ℕ, List}
 use Rattle.book.specs.Records.{Entry}
 use Rattle.book.proofs.Reached.{Reached}
-use Rattle.shiftbook.proofs.ending.ending.Given as goal
+use Rattle.shiftbook.proofs.ending.read_through.Given as goal
 
 abbrev pub invariant-loop-item : goal.invariant-loop-item
 invariant-loop-item l =

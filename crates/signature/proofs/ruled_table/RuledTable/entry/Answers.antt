@@ -2,10 +2,11 @@
 use Rattle.std.proofs.Common.{◌+◌, ◌<◌, length, ◌∙◌, arith}
 use Rattle.signature.specs.Table.{computed}
 use Rattle.signature.proofs.Table.{computed_is, entries}
-use Rattle.signature.proofs.ruled_table.entry.Goals as goal
+use Rattle.signature.proofs.ruled_table.RuledTable.entry.Goals as goal
 
 pub returns : goal.returns
 returns g c =
-    let within : c.args.octet < length c.args.table.now = omega arith in
-    entries (computed (g.row.LOW + 7) g.row.POLY 8) c.args.table.now c.requires c.args.octet within
+    let table = c.args.self.now in
+    let within : c.args.octet < length table.entries.now = omega (arith, table.full) in
+    entries (computed (g.row.LOW + 7) g.row.POLY 8) table.entries.now table.ruled c.args.octet within
     ∙ computed_is (g.row.LOW + 7) g.row.POLY 8 c.args.octet

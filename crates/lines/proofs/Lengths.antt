@@ -25,11 +25,11 @@ spelled_few (suc k) n acc =
     let more : List ℕ = digit_glyph false (n % 10) ∷ acc in
     cond_both (eqb (n / 10) 0) more (digits_onto k 10 false (n / 10) more) (λ (xs : List ℕ). length xs ≤ suc k + length acc) (λ _. omega arith) (λ _. omega (arith, spelled_few k (n / 10) more))
 
-begun : (n : ℕ) → digits_onto 64 10 false n [] ≡ decimal n
+pub begun : (n : ℕ) → digits_onto 64 10 false n [] ≡ decimal n
 unfolding digits
 begun n = refl
 
-few_digits : (n : ℕ) → length (decimal n) ≤ 64
+pub few_digits : (n : ℕ) → length (decimal n) ≤ 64
 few_digits n = subst (λ (xs : List ℕ). length xs ≤ 64) (begun n) (omega (arith, spelled_few 64 n []))
 
 -- a piece of at most n octets

@@ -1,5 +1,5 @@
 // The eighteen reasons for turning a call down, each with its number, its layer and its text.
-ghost use Rattle.std.specs.Prelude.{◌≡◌, Some};
+ghost use Rattle.std.specs.Prelude.{◌≡◌, Some, ◌==◌};
 ghost use Rattle.refusal.specs.Reasons.{OneReason, layer_of, layer_name, number_of, text_of};
 
 use std::fmt;
@@ -62,6 +62,13 @@ impl Reason {
         ensures { result ≡ number_of self }
     {
         self as u8
+    }
+
+    // Whether it is this reason: what the derived `==` answers, which is equality of the numbers.
+    pub fn is(self, other: Reason) -> bool
+        ensures { result ≡ (number_of self == number_of other) }
+    {
+        self == other
     }
 
     // By number, as the pages give the layers; eighteen cases in its place would be no plainer.

@@ -113,9 +113,12 @@ pub fn read_octets(heap: Global, text: &str) -> Result<Option<(Vec<u8>, Vec<u8>)
     let Some((field, rest)) = cut(text) else {
         return Ok(None);
     };
-    let octets = decode(heap, field.as_bytes())?;
+    // Where the octets are malformed, the answer takes neither memory nor time.
+    let Some(octets) = decode(heap, field.as_bytes())? else {
+        return Ok(None);
+    };
     let answer = decode(heap, rest.as_bytes())?;
-    Ok(octets.zip(answer))
+    Ok(Some(octets).zip(answer))
 }
 
 // What a form asks, and the rest of the text.
